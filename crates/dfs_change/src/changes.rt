@@ -1,0 +1,148 @@
+ghost use Rattle.std.specs.Prelude.{◌≡◌, ◌∷◌, IfNone, IfOk, OnOk, OnErr, MatchOption, IsTrue};
+ghost use Rattle.dfs_record.specs.Delta.{with_record, records_of};
+ghost use Rattle.std.specs.List.{AllByRecursion};
+ghost use Rattle.dfs_record.specs.KeyMap.{empty, len};
+ghost use Rattle.dfs_record.specs.Lend.{key_of, value_of};
+ghost use Rattle.dfs_record.specs.Record.{IsRecord};
+ghost use Rattle.dfs_change.specs.Identities.{is_below};
+ghost use Rattle.dfs_change.specs.Log.{are_bytes, spellings};
+
+use dfs_record::{Entry, Key, KeyRef, NoMemory, Record, RecordRef, Value, ValueRef, encode};
+use std::alloc::Global;
+use std::collections::BTreeMap;
+use std::marker::Model;
+
+// The value, lent.
+fn lent(value: &Value) -> ValueRef<'_>
+    ensures { value_of result ≡ value.now }
+{
+    match value {
+        Value::Del => ValueRef::Del,
+        Value::Put(Entry::Dir { id, mode, time }) => ValueRef::Dir {
+            id: *id,
+            mode: *mode,
+            time: *time,
+        },
+        Value::Put(
+            Entry::File {
+                mode,
+                time,
+                size,
+                reference,
+            },
+        ) => ValueRef::File {
+            mode: *mode,
+            time: *time,
+            size: *size,
+            reference: reference.bytes(),
+        },
+    }
+}
+
+/// A change set in memory, seen as the finite map from keys to values.
+#[derive(Drop)]
+pub struct Changes {
+    entries: BTreeMap<Key, Value>,
+}
+
+impl Model for Changes {
+    ghost use Rattle.dfs_record.specs.Delta.{Delta};
+    ghost use Rattle.dfs_record.specs.KeyMap.{from_entries};
+    ghost use Rattle.dfs_change.specs.Entries.{delta_code};
+
+    ghost Value = { Delta };
+
+    ghost coded = { delta_code };
+
+    ghost view = { λ changes. from_entries changes.entries.entries };
+}
+
+impl Changes {
+    /// No change.
+    pub fn new(alloc: Global) -> Changes
+        ensures { result ≡ empty }
+    {
+        Changes {
+            entries: BTreeMap::new(alloc),
+        }
+    }
+
+    /// How many keys it has.
+    pub fn len(&self) -> u64
+        ensures { result ≡ len self.now }
+    {
+        self.entries.len() as u64
+    }
+
+    /// Gives the key of the record its value, in place of an earlier one.
+    pub fn put(&mut self, rec: Record) -> Result<(), NoMemory>
+        ensures ok { OnOk result (self.new ≡ with_record self.old rec) }
+        ensures err { OnErr result (self.new ≡ self.old) }
+    {
+        match self.entries.insert(rec.key, rec.value) {
+            Ok(_) => Ok(()),
+            Err(_) => Err(NoMemory),
+        }
+    }
+
+    // Whether its keys are all below this one.
+    pub(crate) fn is_below(&self, key: KeyRef<'_>) -> bool
+        ensures { result ≡ is_below self.now (key_of key.entry) }
+    {
+        // A map's length tells that its keys rise.
+        let _len = self.entries.len();
+        match self.entries.last_key_value() {
+            Some((last, _)) => last.lend().order(key).is_lt(),
+            None => true,
+        }
+    }
+
+    // The spellings of its records, in rising order of their keys.
+    pub(crate) fn spell(&self, alloc: Global) -> Result<Vec<u8>, NoMemory>
+        requires { AllByRecursion IsRecord (records_of self.now) }
+        ensures spelled { IfOk result (λ bytes. bytes.items ≡ spellings self.now) }
+        ensures fit { IfOk result (λ bytes. IsTrue (are_bytes bytes.items)) }
+    {
+        let mut bytes = Vec::new(alloc);
+        for (key, value) in &self.entries {
+            let rec = RecordRef {
+                key: key.lend(),
+                value: lent(value),
+            };
+            encode(rec, &mut bytes)?;
+        }
+        tell_bytes(&bytes);
+        Ok(bytes)
+    }
+
+    /// Takes off the record with the least key.
+    pub fn pop_first(&mut self) -> Option<Record>
+        ensures first { MatchOption result (self.old ≡ empty) (λ first. records_of self.old ≡ first ∷ records_of self.new) }
+        ensures none { IfNone result (self.new ≡ self.old) }
+    {
+        // A map's length tells that its keys rise.
+        let _len = self.entries.len();
+        let (key, value) = self.entries.pop_first()?;
+        Some(Record { key, value })
+    }
+
+    /// Its records, in rising order of their keys.
+    pub fn into_records(self, alloc: Global) -> Result<Vec<Record>, NoMemory>
+        ensures { IfOk result (λ records. records.items ≡ records_of self) }
+    {
+        let mut records = Vec::with_capacity(alloc, self.entries.len())?;
+        for (key, value) in self.entries {
+            if records.push(Record { key, value }).is_err() {
+                return Err(NoMemory);
+            }
+        }
+        Ok(records)
+    }
+}
+
+// It does nothing: its contract tells a proof that a slice of `u8` has numbers below 256.
+fn tell_bytes(bytes: &[u8])
+    ensures { IsTrue (are_bytes bytes.now) }
+{
+    let _bytes = bytes;
+}

@@ -1,0 +1,148 @@
+ghost use Rattle.std.specs.Prelude.{◌≡◌, ◌≤◌, ◌<◌, ◌++◌, ◌∷◌, [], ℕ, All, vec_len, vec_capacity};
+ghost use Rattle.dfs_host.specs.Disk.{IsSound};
+ghost use Rattle.dfs_mem.specs.Files.{bytes_at};
+ghost use Rattle.dfs_mem.specs.Deeds.{start_disk, disk_after};
+
+use crate::deed::{Deed, Kept, Patch};
+use crate::files::{Files, content, copied, cut_if, write_if};
+use std::alloc::{AllocError, Global};
+
+// Keeps a deed for which there is room.
+fn keep(deeds: &mut Vec<Kept>, kept: Kept)
+    requires { vec_len deeds.old < vec_capacity deeds.old }
+    ensures { deeds.new.items ≡ deeds.old.items ++ kept ∷ [] }
+{
+    match deeds.push(kept) {
+        Ok(()) => {}
+        Err(_) => unreachable!(),
+    }
+}
+
+// Files and an output, beside what they were at the start and what was done since. `last` is the number of the last call that was kept.
+#[derive(Drop)]
+pub struct MemDisk {
+    alloc: Global,
+    start: Vec<(u32, Vec<u8>)>,
+    deeds: Vec<Kept>,
+    last: u64,
+    files: Files,
+    said: Vec<u8>,
+    ghost numbered: { All (λ kept. kept.call ≤ last) deeds.items },
+    ghost reads: { (n : ℕ) → bytes_at files n ≡ ((disk_after deeds.items (start_disk start.items)).files n).bytes },
+    ghost speaks: { said.items ≡ (disk_after deeds.items (start_disk start.items)).said },
+    ghost sound: { (n : ℕ) → IsSound ((disk_after deeds.items (start_disk start.items)).files n) },
+}
+
+impl MemDisk {
+    ghost use Rattle.std.specs.Prelude.{◌≡◌, ◌≤◌, ◌+◌, ◌^◌, ◌++◌, [], ◌∷◌, length, take, OnOk, OnErr};
+    ghost use Rattle.std.specs.Prelude.{ℕ, IfOk, IsTrue};
+    ghost use Rattle.dfs_host.specs.Disk.{settled_file};
+    ghost use Rattle.dfs_mem.specs.Files.{bytes_in, numbers_differ};
+    ghost use Rattle.dfs_mem.specs.Deeds.{write_step, cut_step, sync_step, say_step, spoken};
+    ghost use Rattle.dfs_mem.specs.MemDisk.{disk_of, past_of, IsSame};
+
+    // A disk with these files, each settled, and with nothing said.
+    pub fn new(alloc: Global, start: Vec<(u32, Vec<u8>)>) -> Result<Self, AllocError>
+        requires { IsTrue (numbers_differ start.items) }
+        ensures files { IfOk result (λ disk. (n : ℕ) → (disk_of disk).files n ≡ settled_file (bytes_in start.items n)) }
+        ensures said { IfOk result (λ disk. (disk_of disk).said ≡ []) }
+        ensures past { IfOk result (λ disk. past_of disk ≡ []) }
+        ensures last { IfOk result (λ disk. disk.last ≡ 0) }
+    {
+        let files = copied(alloc, &start)?;
+        Ok(MemDisk {
+            alloc,
+            start,
+            deeds: Vec::new(alloc),
+            last: 0,
+            files,
+            said: Vec::new(alloc),
+        })
+    }
+
+    pub fn content(&self, file: u32) -> &[u8]
+        ensures { result.now ≡ ((disk_of self.now).files file).bytes }
+    {
+        content(&self.files, file)
+    }
+
+    pub fn said(&self) -> &[u8]
+        ensures { result.now ≡ (disk_of self.now).said }
+    {
+        &self.said
+    }
+
+    pub fn write(
+        &mut self,
+        call: u64,
+        file: u32,
+        at: u64,
+        bytes: &[u8],
+        done: bool,
+    ) -> Result<(), AllocError>
+        requires later { self.old.last ≤ call }
+        requires inside { at ≤ length ((disk_of self.old).files file).bytes }
+        requires end { at + length bytes.now ≤ 2 ^ 63 }
+        ensures disk { OnOk result (disk_of self.new ≡ write_step file at bytes.now done (disk_of self.old)) }
+        ensures past { OnOk result (past_of self.new ≡ past_of self.old ++ disk_of self.old ∷ []) }
+        ensures err { OnErr result (IsSame self.old self.new) }
+        ensures last { self.new.last ≤ call }
+    {
+        let copy = bytes.to_vec(self.alloc)?;
+        self.deeds.reserve(1)?;
+        write_if(&mut self.files, self.alloc, file, at as usize, bytes, done)?;
+        let patch = Patch { at, bytes: copy };
+        let deed = Deed::Write { file, patch, done };
+        keep(&mut self.deeds, Kept { call, deed });
+        self.last = call;
+        Ok(())
+    }
+
+    pub fn cut(&mut self, call: u64, file: u32, len: u64, done: bool) -> Result<(), AllocError>
+        requires later { self.old.last ≤ call }
+        requires inside { len ≤ length ((disk_of self.old).files file).bytes }
+        ensures disk { OnOk result (disk_of self.new ≡ cut_step file len done (disk_of self.old)) }
+        ensures past { OnOk result (past_of self.new ≡ past_of self.old ++ disk_of self.old ∷ []) }
+        ensures err { OnErr result (IsSame self.old self.new) }
+        ensures last { self.new.last ≤ call }
+    {
+        self.deeds.reserve(1)?;
+        cut_if(&mut self.files, file, len as usize, done);
+        let deed = Deed::Cut { file, len, done };
+        keep(&mut self.deeds, Kept { call, deed });
+        self.last = call;
+        Ok(())
+    }
+
+    pub fn sync(&mut self, call: u64, file: u32) -> Result<(), AllocError>
+        requires { self.old.last ≤ call }
+        ensures disk { OnOk result (disk_of self.new ≡ sync_step file (disk_of self.old)) }
+        ensures past { OnOk result (past_of self.new ≡ past_of self.old ++ disk_of self.old ∷ []) }
+        ensures err { OnErr result (IsSame self.old self.new) }
+        ensures last { self.new.last ≤ call }
+    {
+        self.deeds.reserve(1)?;
+        let deed = Deed::Sync { file };
+        keep(&mut self.deeds, Kept { call, deed });
+        self.last = call;
+        Ok(())
+    }
+
+    // Says the first `count` of the bytes.
+    pub fn say(&mut self, call: u64, bytes: &[u8], count: usize) -> Result<(), AllocError>
+        requires later { self.old.last ≤ call }
+        requires inside { count ≤ length bytes.now }
+        ensures disk { OnOk result (disk_of self.new ≡ say_step (take count bytes.now) (disk_of self.old)) }
+        ensures past { OnOk result (past_of self.new ≡ past_of self.old ++ spoken bytes.now (disk_of self.old)) }
+        ensures err { OnErr result (IsSame self.old self.new) }
+        ensures last { self.new.last ≤ call }
+    {
+        let copy = bytes.to_vec(self.alloc)?;
+        self.deeds.reserve(1)?;
+        self.said.extend_from_slice(&bytes[..count])?;
+        let deed = Deed::Say { bytes: copy, count };
+        keep(&mut self.deeds, Kept { call, deed });
+        self.last = call;
+        Ok(())
+    }
+}

@@ -1,0 +1,170 @@
+ghost use Rattle.dfs_host.proofs.Files.{sound_when_settled};
+ghost use Rattle.dfs_host.specs.Counts.{RoseBy};
+ghost use Rattle.dfs_host.specs.Host.{silent_state};
+ghost use Rattle.std.specs.Prelude.{[]};
+
+use crate::{Call, MemHost, MemSource};
+use dfs_host::{Failed, Host, Source};
+use std::test::Fail;
+
+// A host that tells nothing. It reads zeros, and each second call fails.
+#[derive(Drop)]
+struct Silent {
+    fails: bool,
+    disk_faults: u64,
+    say_faults: u64,
+    reads: u64,
+}
+
+fn count_up(counter: &mut u64)
+    ensures { RoseBy 1 counter.old counter.new }
+{
+    *counter = counter.saturating_add(1);
+}
+
+impl Silent {
+    ghost use Rattle.std.specs.Prelude.{◌≡◌};
+    ghost use Rattle.dfs_host.specs.Counts.{HasCause};
+
+    fn answer(&mut self) -> Result<(), Failed>
+        ensures disk { HasCause self.old.disk_faults self.new.disk_faults result }
+        ensures say { self.new.say_faults ≡ self.old.say_faults }
+        ensures reads { self.new.reads ≡ self.old.reads }
+    {
+        self.fails = !self.fails;
+        if self.fails {
+            return Ok(());
+        }
+        count_up(&mut self.disk_faults);
+        Err(Failed)
+    }
+}
+
+impl Host for Silent {
+    ghost state = { λ host. silent_state host.disk_faults host.say_faults host.reads };
+
+    fn len(&mut self, _file: u32) -> Result<u64, Failed> {
+        self.answer()?;
+        Ok(0)
+    }
+
+    fn read_at(&mut self, _file: u32, _at: u64, out: &mut [u8]) -> Result<usize, Failed> {
+        count_up(&mut self.reads);
+        self.answer()?;
+        out.fill(0);
+        Ok(out.len())
+    }
+
+    fn write_at(&mut self, _file: u32, _at: u64, _bytes: &[u8]) -> Result<(), Failed> {
+        self.answer()
+    }
+
+    fn cut(&mut self, _file: u32, _len: u64) -> Result<(), Failed> {
+        self.answer()
+    }
+
+    fn sync(&mut self, _file: u32) -> Result<(), Failed> {
+        self.answer()
+    }
+
+    fn say(&mut self, bytes: &[u8]) -> Result<(), Failed> {
+        if bytes.is_empty() {
+            count_up(&mut self.say_faults);
+            return Err(Failed);
+        }
+        Ok(())
+    }
+
+    ghost sound = { λ host n tells. sound_when_settled [] };
+}
+
+// Says what a file begins with, whatever the host tells.
+fn say_front<H: Host>(host: &mut H, file: u32) -> Result<usize, Failed> {
+    let mut front = [1u8; 4];
+    let count = host.read_at(file, 0, &mut front)?;
+    host.say(&front[..count])?;
+    Ok(count)
+}
+
+#[test]
+fn a_host_may_tell_nothing(rt: HostRuntime) -> Result<(), Fail> {
+    let mut host = Silent {
+        fails: false,
+        disk_faults: 0,
+        say_faults: 0,
+        reads: 0,
+    };
+    assert_eq!(rt; say_front(&mut host, 3), Ok(4));
+    assert_eq!(rt; say_front(&mut host, 3), Err(Failed));
+    assert_eq!(rt; (host.reads, host.disk_faults), (2, 1));
+    Ok(())
+}
+
+#[test]
+fn a_host_in_memory_starts_with_nothing(rt: HostRuntime) -> Result<(), Fail> {
+    let alloc = rt.alloc();
+    let mut host = MemHost::new(alloc, Vec::new(alloc), Vec::new(alloc))?;
+    assert_eq!(rt; say_front(&mut host, 3), Ok(0));
+    assert_eq!(rt; (host.calls(), host.starved()), (2, 0));
+    assert_eq!(rt; (host.file(3).len(), host.said().len()), (0, 0));
+    Ok(())
+}
+
+#[test]
+fn it_reads_what_was_given_written_and_cut(rt: HostRuntime) -> Result<(), Fail> {
+    let alloc = rt.alloc();
+    let mut files = Vec::new(alloc);
+    files.push((1, b"log".to_vec(alloc)?))?;
+    files.push((0, b"registry".to_vec(alloc)?))?;
+    let mut host = MemHost::new(alloc, files, Vec::new(alloc))?;
+    host.write_at(7, 0, b"new")?;
+    host.write_at(1, 0, b"LOgs")?;
+    host.cut(0, 3)?;
+    host.sync(1)?;
+    host.say(b"ok")?;
+    assert_eq!(rt; host.file(0), b"reg".as_slice());
+    assert_eq!(rt; host.file(1), b"LOgs".as_slice());
+    assert_eq!(rt; host.file(7), b"new".as_slice());
+    assert_eq!(rt; say_front(&mut host, 1), Ok(4));
+    assert_eq!(rt; host.said(), b"okLOgs".as_slice());
+    assert_eq!(rt; host.len(1), Ok(4));
+    assert_eq!(rt; (host.calls(), host.starved()), (8, 0));
+    Ok(())
+}
+
+#[test]
+fn listed_calls_fail(rt: HostRuntime) -> Result<(), Fail> {
+    let alloc = rt.alloc();
+    let mut failing = Vec::new(alloc);
+    failing.push((Call::Write, 2))?;
+    failing.push((Call::Say, 1))?;
+    let mut host = MemHost::new(alloc, Vec::new(alloc), failing)?;
+    assert_eq!(rt; host.write_at(1, 0, b"ab"), Ok(()));
+    assert_eq!(rt; host.write_at(1, 0, b"cd"), Err(Failed));
+    assert_eq!(rt; host.say(b"words"), Err(Failed));
+    assert_eq!(rt; host.say(b"!"), Ok(()));
+    assert_eq!(rt; host.file(1), b"ab".as_slice());
+    assert_eq!(rt; host.said(), b"wo!".as_slice());
+    assert_eq!(rt;
+        (host.made(Call::Write), host.made(Call::Say), host.calls()),
+        (2, 2, 4)
+    );
+    Ok(())
+}
+
+#[test]
+fn takes_go_by_their_cuts(rt: HostRuntime) -> Result<(), Fail> {
+    let alloc = rt.alloc();
+    let mut cuts = Vec::new(alloc);
+    cuts.push(1)?;
+    cuts.push(2)?;
+    let mut failing = Vec::new(alloc);
+    failing.push(1)?;
+    let mut source = MemSource::new(b"abcdef".to_vec(alloc)?, cuts, failing);
+    let mut out = [0u8; 3];
+    for want in [Ok(1), Err(Failed), Ok(3), Ok(2), Ok(0)] {
+        assert_eq!(rt; source.take(&mut out), want);
+    }
+    assert_eq!(rt; out.as_slice(), b"efd".as_slice());
+    Ok(())
+}

@@ -1,0 +1,4 @@
+pub mod Applied
+pub mod Op
+pub mod Plan
+pub mod Within

@@ -1,0 +1,36 @@
+use Rattle.std.proofs.Common.{refl, sym, ◌∙◌, ap, subst}
+use Rattle.dfs_host.specs.Disk.{IsSettled}
+use Rattle.dfs_registry.specs.Reading.{registry}
+use Rattle.dfs_registry.proofs.Following.{reads_go_on, same_bytes}
+use Rattle.dfs_registry.proofs.Steps.{stands, reads_leave, close_leaves, other_header}
+use Rattle.dfs_registry.proofs.opening.open_long.Goals as goal
+
+pub returns-in_err-registry-in-Ok-true-clause-images : goal.returns-in_err-registry-in-Ok-true-clause-images
+returns-in_err-registry-in-Ok-true-clause-images g c tells settled = reads_leave settled (reads_go_on c.has_header.ensures.only c.read_gates.ensures.only) tells
+
+pub returns-in-Ok-clause-answer : goal.returns-in-Ok-clause-answer
+returns-in-Ok-clause-answer g c tells =
+    sym (ap registry (same_bytes c.has_header.ensures.only tells)) ∙ stands _ c.in_ok-registry-in-Ok-true.ensures.listing _ _ refl (c.in_ok-registry-in-Ok-true.ensures.ends (c.has_header.ensures.only.tells ∙ tells))
+
+pub returns-in-Ok-clause-images : goal.returns-in-Ok-clause-images
+returns-in-Ok-clause-images g c tells settled =
+    let only = reads_go_on c.has_header.ensures.only c.read_gates.ensures.only in
+    close_leaves settled only tells
+    (sym (ap registry (same_bytes c.has_header.ensures.only tells)) ∙ stands _ c.in_ok-registry-in-Ok-true.ensures.listing _ _ refl (c.in_ok-registry-in-Ok-true.ensures.ends (c.has_header.ensures.only.tells ∙ tells)))
+    (c.close.ensures.images (only.tells ∙ tells) (subst (λ d. IsSettled (d.files 0)) (sym (only.content tells).disk) settled))
+
+pub returns-in-Err-close-clause-images : goal.returns-in-Err-close-clause-images
+returns-in-Err-close-clause-images g c tells settled =
+    let only = reads_go_on c.has_header.ensures.only c.read_gates.ensures.only in
+    close_leaves settled only tells
+    (sym (ap registry (same_bytes c.has_header.ensures.only tells)) ∙ stands _ c.in_ok-registry-in-Ok-true.ensures.listing _ _ refl (c.in_ok-registry-in-Ok-true.ensures.ends (c.has_header.ensures.only.tells ∙ tells)))
+    (c.close.ensures.images (only.tells ∙ tells) (subst (λ d. IsSettled (d.files 0)) (sym (only.content tells).disk) settled))
+
+pub returns-in-Ok-false-clause-answer : goal.returns-in-Ok-false-clause-answer
+returns-in-Ok-false-clause-answer g c tells = other_header _ (c.requires.long tells) (sym (c.in-Ok-false.ensures.answer tells) ∙ c.in-Ok-false.field-0-test)
+
+pub returns-in-Ok-false-clause-images : goal.returns-in-Ok-false-clause-images
+returns-in-Ok-false-clause-images g c tells settled = reads_leave settled c.has_header.ensures.only tells
+
+pub returns-in-Err-clause-images : goal.returns-in-Err-clause-images
+returns-in-Err-clause-images g c tells settled = reads_leave settled c.has_header.ensures.only tells

@@ -1,0 +1,156 @@
+use super::*;
+use dfs_path::Op;
+use std::test::*;
+
+const SAID: [&[u8]; 14] = [
+    b"snapshots",
+    b"  snapshots  ",
+    b"snapshots\r",
+    b"begin w",
+    b"begin w-_9 s.1 s.1",
+    b"a mkdir / 0 00000000000000000007",
+    b"a create /%2e%2E./%c3%A9 7777 18446744073709551615 0 %00",
+    b"a unlink /x",
+    b"a rmdir /x",
+    b"a rename /x /x/y",
+    b"a setattr /x 755 1",
+    b"a stat /~",
+    b"mkdir list /",
+    b"begins drop",
+];
+
+const SILENT: [&[u8]; 6] = [b"", b"\r", b"   ", b"#", b"# set\tbuffer \xff", b"#\r\r"];
+
+const FAULTS: [&[u8]; 33] = [
+    b"\r\r",
+    b"snapshots\r\r",
+    b"snapshots now",
+    b"snap\tshots",
+    b" # x",
+    b"begin",
+    b"begin set",
+    b"begin snapshots",
+    b"begin begin",
+    b"begin retire",
+    b"begin reclaim",
+    b"begin clashes",
+    b"begin a.b",
+    b"begin a s/t",
+    b"begin aaaaaaaaaaaaaaaaaaaaaaaaaaaaaaaaa",
+    b"a",
+    b"a drop now",
+    b"a publish",
+    b"a mkdir / 0",
+    b"a mkdir / 0 0 0",
+    b"a mkdir / 00000 0",
+    b"a mkdir / 8 0",
+    b"a mkdir / 0 000000000000000000000",
+    b"a mkdir / 0 18446744073709551616",
+    b"a mkdir / 0 -1",
+    b"a create / 0 0 0 ab%2",
+    b"a stat x",
+    b"a stat //",
+    b"a stat /x/",
+    b"a stat /.",
+    b"a stat /%2e.",
+    b"a stat /%2F",
+    b"a stat /\x7f",
+];
+
+#[test]
+fn each_command(rt: HostRuntime) {
+    for line in SAID {
+        assert!(rt;
+            matches!(
+                read_line(rt.alloc(), line),
+                Ok(Line::Snapshots | Line::Begin { .. } | Line::Space { .. } | Line::End { .. })
+            ),
+            "{line:?}"
+        );
+    }
+}
+
+#[test]
+fn comments_and_no_words(rt: HostRuntime) {
+    for line in SILENT {
+        assert!(rt;
+            matches!(read_line(rt.alloc(), line), Ok(Line::Nothing)),
+            "{line:?}"
+        );
+    }
+}
+
+#[test]
+fn faults_of_syntax(rt: HostRuntime) {
+    for line in FAULTS {
+        assert!(rt;
+            matches!(read_line(rt.alloc(), line), Err(LineFault::Syntax)),
+            "{line:?}"
+        );
+    }
+}
+
+#[test]
+fn the_values_of_words(rt: HostRuntime) -> Result<(), Fail> {
+    let line = read_line(rt.alloc(), b"w create /a%20b/c 0644 7 8 %41r");
+    let Ok(Line::Space { job, op }) = &line else {
+        return Err("an operation")?;
+    };
+    let Op::Create {
+        path,
+        mode,
+        time,
+        size,
+        reference,
+    } = op
+    else {
+        return Err("a create")?;
+    };
+    assert_eq!(rt; job.bytes(), b"w".as_slice());
+    assert_eq!(rt; path.len(), 2);
+    assert_eq!(rt; path.get(0).bytes(), b"a b".as_slice());
+    assert_eq!(rt; *mode, 420);
+    assert_eq!(rt; *time, 7);
+    assert_eq!(rt; *size, 8);
+    assert_eq!(rt; reference.bytes(), b"Ar".as_slice());
+    Ok(())
+}
+
+#[test]
+fn the_names_of_snapshots(rt: HostRuntime) -> Result<(), Fail> {
+    let line = read_line(rt.alloc(), b"begin w s t");
+    let Ok(Line::Begin { names, .. }) = &line else {
+        return Err("a begin")?;
+    };
+    assert_eq!(rt; names.len(), 2);
+    assert_eq!(rt; names.get(1).bytes(), b"t".as_slice());
+    let line = read_line(rt.alloc(), b"w publish s");
+    let Ok(Line::Publish { name, .. }) = &line else {
+        return Err("a publish")?;
+    };
+    assert_eq!(rt; name.bytes(), b"s".as_slice());
+    Ok(())
+}
+
+#[test]
+fn long_lines(rt: HostRuntime) -> Result<(), Fail> {
+    let mut line = vec![in rt.alloc(); b'#'; 8192]?;
+    assert!(rt; read_line(rt.alloc(), &line).is_ok());
+    line.push(b'\r')?;
+    assert!(rt; read_line(rt.alloc(), &line).is_ok());
+    line.push(b'\r')?;
+    assert!(rt; matches!(read_line(rt.alloc(), &line), Err(LineFault::Long)));
+    Ok(())
+}
+
+#[test]
+fn bytes_of_a_line(rt: HostRuntime) -> Result<(), Fail> {
+    let mut collector = Collector::new(rt.alloc()).ok().ok_or("memory")?;
+    assert!(rt; !collector.push(b'a'));
+    assert!(rt; !collector.push(b'\r'));
+    assert!(rt; collector.push(b'\n'));
+    assert_eq!(rt; collector.line(), b"a\r".as_slice());
+    collector.clear();
+    assert_eq!(rt; collector.line(), b"".as_slice());
+    Ok(())
+}

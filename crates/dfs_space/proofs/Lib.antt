@@ -1,0 +1,5 @@
+pub mod Causes
+mod Entries
+pub mod Reading
+mod Spans
+mod Stored

@@ -1,0 +1,4 @@
+pub mod Children
+pub mod PlainSpace
+pub mod Space
+pub mod Span

@@ -1,5 +1,5 @@
 -- Change sets of a job as it goes on, and logs beside other files.
-use Rattle.std.proofs.Common.{◌≡◌, ◌≢◌, ℕ, ◌≤◌, Bool, true, false, ◌&&◌, leb, List, [], ◌∷◌, refl, sym, ap, subst, ◌∙◌, arith}
+use Rattle.std.proofs.Common.{◌≡◌, ◌≢◌, ℕ, ◌≤◌, true, leb, List, [], ◌∷◌, refl, ap, subst, arith}
 use Rattle.std.specs.Prelude.{map, IsTrue}
 use Rattle.std.specs.List.{AllByRecursion}
 use Rattle.std.specs.declared.cmp.Ordering.{Ordering}
@@ -16,7 +16,7 @@ use Rattle.dfs_record.specs.declared.Value.TheVariants.{Del, Put}
 use Rattle.dfs_record.specs.Delta.{Delta, records_of, with_record}
 use Rattle.dfs_record.specs.Key.{key_cmp, keys_exact}
 use Rattle.dfs_registry.specs.declared.listed.Listed.{Listed}
-use Rattle.dfs_change.specs.Identities.{FitsJob, AreFit, value_within, is_within}
+use Rattle.dfs_change.specs.Identities.{FitsJob, AreFit, value_within}
 use Rattle.dfs_change.specs.Log.{log_changes}
 use Rattle.dfs_change.proofs.Maps.{record_at}
 use Rattle.dfs_change.proofs.Spelled.{both_true, first_true, second_true}

@@ -2,42 +2,15 @@ ghost use Rattle.std.specs.Prelude.{◌≡◌, ◌∷◌, IfNone, IfOk, OnOk, On
 ghost use Rattle.dfs_record.specs.Delta.{with_record, records_of};
 ghost use Rattle.std.specs.List.{AllByRecursion};
 ghost use Rattle.dfs_record.specs.KeyMap.{empty, len};
-ghost use Rattle.dfs_record.specs.Lend.{key_of, value_of};
+ghost use Rattle.dfs_record.specs.Lend.{key_of};
 ghost use Rattle.dfs_record.specs.Record.{IsRecord};
 ghost use Rattle.dfs_change.specs.Identities.{is_below};
 ghost use Rattle.dfs_change.specs.Log.{are_bytes, spellings};
 
-use dfs_record::{Entry, Key, KeyRef, NoMemory, Record, RecordRef, Value, ValueRef, encode};
+use dfs_record::{Key, KeyRef, NoMemory, Record, RecordRef, Value, encode};
 use std::alloc::Global;
 use std::collections::BTreeMap;
 use std::marker::Model;
-
-// The value, lent.
-fn lent(value: &Value) -> ValueRef<'_>
-    ensures { value_of result ≡ value.now }
-{
-    match value {
-        Value::Del => ValueRef::Del,
-        Value::Put(Entry::Dir { id, mode, time }) => ValueRef::Dir {
-            id: *id,
-            mode: *mode,
-            time: *time,
-        },
-        Value::Put(
-            Entry::File {
-                mode,
-                time,
-                size,
-                reference,
-            },
-        ) => ValueRef::File {
-            mode: *mode,
-            time: *time,
-            size: *size,
-            reference: reference.bytes(),
-        },
-    }
-}
 
 /// A change set in memory, seen as the finite map from keys to values.
 #[derive(Drop)]
@@ -107,7 +80,7 @@ impl Changes {
         for (key, value) in &self.entries {
             let rec = RecordRef {
                 key: key.lend(),
-                value: lent(value),
+                value: value.lend(),
             };
             encode(rec, &mut bytes)?;
         }

@@ -29,7 +29,7 @@ impl Key {
 }
 
 impl Value {
-    fn lend(&self) -> ValueRef<'_>
+    pub fn lend(&self) -> ValueRef<'_>
         ensures { value_of result ≡ self.now }
     {
         match self {

@@ -15,8 +15,6 @@ use dfs_record::{DirId, Entry, Key, Name};
 use dfs_space::Space;
 use std::alloc::Global;
 
-const ROOT: DirId = DirId { job: 0, counter: 0 };
-
 const ROOT_MODE: u16 = 0o755;
 
 /// Walks from the root along the path, with one look-up for each of its names.
@@ -53,7 +51,7 @@ fn at_root(passed: Passed) -> Walked
     Walked {
         place: None,
         found: Some(Entry::Dir {
-            id: ROOT,
+            id: DirId::ROOT,
             mode: ROOT_MODE,
             time: 0,
         }),
@@ -75,7 +73,7 @@ fn descend<S: Space>(
     ensures leads { (m : Namespace) → S.StandsFor space.old m → Leads m path.now passed.new result }
     ensures reads { HasRead S.StandsFor S.follows S.state space.old space.new (fault_of result) }
 {
-    let mut dir = ROOT;
+    let mut dir = DirId::ROOT;
     for index in 0..path.len() - 1 {
         passed.push(dir)?;
         dir = enter(alloc, space, dir, path.get(index))?;

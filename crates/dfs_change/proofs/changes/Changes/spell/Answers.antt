@@ -20,13 +20,13 @@ loop-key-init c =
 
 pub encode-requires : goal.encode-requires
 encode-requires c =
-    subst IsRecord (sym (lent_record c.lend.result c.lent.result c.in-Some.key.now c.in-Some.value.now c.lend.ensures.value c.lent.ensures))
+    subst IsRecord (sym (lent_record c.lend.result c.lend-in-loop-key.result c.in-Some.key.now c.in-Some.value.now c.lend.ensures.value c.lend-in-loop-key.ensures))
     (next_valid c.into_iter-key-iterator.result c.loop-key.key-iterator c.next.new.self (c.in-Some.key.now, c.in-Some.value.now) c.loop-key.bytes.items c.loop-key.invariant c.in-Some.ensures.steps)
 
 pub loop-key-preserved : goal.loop-key-preserved
 loop-key-preserved c =
     spelled_on c.into_iter-key-iterator.result c.loop-key.key-iterator c.next.new.self (c.in-Some.key.now, c.in-Some.value.now) c.loop-key.bytes.items c.encode.new.out.items c.loop-key.invariant c.in-Some.ensures.steps
-    (c.in_ok-encode.ensures.spelled ∙ ap (λ (r : Record). c.loop-key.bytes.items ++ spelling r) (lent_record c.lend.result c.lent.result c.in-Some.key.now c.in-Some.value.now c.lend.ensures.value c.lent.ensures))
+    (c.in_ok-encode.ensures.spelled ∙ ap (λ (r : Record). c.loop-key.bytes.items ++ spelling r) (lent_record c.lend.result c.lend-in-loop-key.result c.in-Some.key.now c.in-Some.value.now c.lend.ensures.value c.lend-in-loop-key.ensures))
 
 pub returns-clause-fit : goal.returns-clause-fit
 returns-clause-fit c = subst (λ l. IsTrue (are_bytes l)) c.deref.ensures.value c.tell_bytes.ensures

@@ -1,0 +1,6 @@
+pub mod Block
+pub mod Built
+pub mod Front
+pub mod Left
+pub mod Read
+pub mod Same

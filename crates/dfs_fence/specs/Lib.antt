@@ -1,0 +1,7 @@
+pub mod Cover
+pub mod Growth
+pub mod Index
+pub mod Points
+pub mod Ranges
+pub mod Reading
+pub mod Spelled

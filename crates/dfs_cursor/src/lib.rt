@@ -1,0 +1,16 @@
+//! Cursors: sources of records that stand over a slice, and over a part of another source.
+//!
+//! The layer above sees each of them by the meanings of `Records`. `SliceRecords` has the records of its slice,
+//! and `RangeRecords` has of another source what lies from one key up to, not with, another.
+//!
+//! The definitions stand in `specs/`: the part between two keys, and what is unread of it, in `Ranges`.
+#![tactic(auto)]
+
+mod ranges;
+mod slices;
+
+pub use ranges::RangeRecords;
+pub use slices::SliceRecords;
+
+#[cfg(test)]
+mod tests;

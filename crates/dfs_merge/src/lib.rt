@@ -1,0 +1,17 @@
+//! The merged list of several sources of records: each key once, in rising order, with the value of the last source
+//! that has it.
+//!
+//! The layer above sees a merge as the list of its sources, oldest first, and by the meanings of `Records`. While a
+//! source has blocks to load, the merge has the records that what is still to be loaded can't change.
+//!
+//! The definitions stand in `specs/`: what sources have together in `Sources`, and which of them is taken first in
+//! `Rank`.
+#![tactic(auto)]
+
+mod merge;
+mod rank;
+
+pub use merge::Merge;
+
+#[cfg(test)]
+mod tests;

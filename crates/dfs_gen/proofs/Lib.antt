@@ -1,0 +1,4 @@
+pub mod Counting
+mod Lines
+mod Moved
+mod Rows

@@ -1,0 +1,4 @@
+pub mod GenSource
+pub mod Line
+pub mod Script
+pub mod Summary

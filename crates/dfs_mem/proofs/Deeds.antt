@@ -39,15 +39,15 @@ reads_sync n disk m = elim (eqb_tells m n) [
 ]
 
 -- a deed is kept at the end of a list that is the one from before
-module _ (start : List (ℕ × Vec ℕ Global)) (deeds mid new : List Kept) (kept : Kept) (is : new ≡ mid ++ kept ∷ []) (same : mid ≡ deeds) where
+module _ (start : List (ℕ × Vec ℕ Global)) (said : List ℕ) (deeds mid new : List Kept) (kept : Kept) (is : new ≡ mid ++ kept ∷ []) (same : mid ≡ deeds) where
   longer : new ≡ deeds ++ kept ∷ []
   longer = is ∙ ap (λ (l : List Kept). l ++ kept ∷ []) same
 
-  pub after_one : disk_after new (start_disk start) ≡ step kept.deed (disk_after deeds (start_disk start))
-  after_one = ap (λ (l : List Kept). disk_after l (start_disk start)) longer ∙ disk_after-push deeds kept (start_disk start)
+  pub after_one : disk_after new (start_disk start said) ≡ step kept.deed (disk_after deeds (start_disk start said))
+  after_one = ap (λ (l : List Kept). disk_after l (start_disk start said)) longer ∙ disk_after-push deeds kept (start_disk start said)
 
-  pub before_one : disks_before new (start_disk start) ≡ disks_before deeds (start_disk start) ++ passed kept.deed (disk_after deeds (start_disk start))
-  before_one = ap (λ (l : List Kept). disks_before l (start_disk start)) longer ∙ disks_before-push deeds kept (start_disk start)
+  pub before_one : disks_before new (start_disk start said) ≡ disks_before deeds (start_disk start said) ++ passed kept.deed (disk_after deeds (start_disk start said))
+  before_one = ap (λ (l : List Kept). disks_before l (start_disk start said)) longer ∙ disks_before-push deeds kept (start_disk start said)
 
   -- no number is above the last one
   pub numbered_one : (last : ℕ) → All (λ (k : Kept). k.call ≤ last) deeds → last ≤ kept.call → All (λ (k : Kept). k.call ≤ kept.call) new

@@ -1,6 +1,6 @@
 -- The files that are given at the start.
-use Rattle.std.proofs.Common.{◌≡◌, ℕ, ◌+◌, ◌<◌, suc, zero, Bool, true, false, not, cond, eqb, List, [], ◌∷◌, ◌++◌, length, take, get_or, Vec, Option, Some, refl, ◌∙◌, ap, arith}
-use Rattle.std.proofs.lemmas.List.{take_more}
+use Rattle.std.proofs.Common.{◌≡◌, ℕ, ◌+◌, ◌<◌, suc, zero, Bool, true, false, not, cond, eqb, List, [], ◌∷◌, ◌++◌, length, take, get_or, drop, ◌&&◌, Vec, Option, Some, refl, sym, ◌∙◌, ap, arith}
+use Rattle.std.proofs.lemmas.List.{take_more, drop_more}
 use Rattle.std.proofs.lemmas.Bool.{and_parts, and_from}
 use Rattle.std.proofs.lemmas.Bool.Decides.{nat_tests}
 use Rattle.std.specs.Option.{option_map_or}
@@ -14,11 +14,11 @@ use Rattle.dfs_mem.specs.Files.{bytes_at, bytes_in, is_missing, numbers_differ}
 pick : (p q n : ℕ) (x y z : List ℕ) → not (eqb p q) ≡ true → cond (eqb p n) x (cond (eqb q n) y z) ≡ cond (eqb q n) y (cond (eqb p n) x z)
 pick p q n x y z apart = grind (arith, nat_tests)
 
-turned : (p q : ℕ) → not (eqb p q) ≡ true → not (eqb q p) ≡ true
+pub turned : (p q : ℕ) → not (eqb p q) ≡ true → not (eqb q p) ≡ true
 turned p q apart = grind (arith, nat_tests)
 
 -- one file more
-bytes_in-push : (files : List (ℕ × Vec ℕ Global)) (file : ℕ × Vec ℕ Global) (n : ℕ) → is_missing file.0 files ≡ true
+pub bytes_in-push : (files : List (ℕ × Vec ℕ Global)) (file : ℕ × Vec ℕ Global) (n : ℕ) → is_missing file.0 files ≡ true
     → bytes_in (files ++ file ∷ []) n ≡ cond (eqb file.0 n) file.1.items (bytes_in files n)
 bytes_in-push [] file n none = refl
 bytes_in-push (first ∷ files) file n none =
@@ -54,3 +54,14 @@ pub bytes_at-put : (old new : HashMap ℕ (Vec ℕ Global) (BuildHasherDefault F
     → bytes_at new n ≡ cond (eqb k n) file.items (bytes_at old n)
 bytes_at-put old new k n file is =
     ap (λ (o : Option (Vec ℕ Global)). option_map_or (λ (v : Vec ℕ Global). v.items) o []) is ∙ picked (eqb k n) (λ (v : Vec ℕ Global). v.items) file (get eqb old n)
+
+-- what a search finds at place i, and what the rest of the list says
+pub bytes_in-drop : (files : List (ℕ × Vec ℕ Global)) (i n : ℕ) (one : ℕ × Vec ℕ Global) → i < length files → one ≡ get_or files i one
+    → bytes_in (drop i files) n ≡ cond (eqb one.0 n) one.1.items (bytes_in (drop (i + 1) files) n)
+bytes_in-drop files i n one below is =
+    ap (λ (l : List (ℕ × Vec ℕ Global)). bytes_in l n) (drop_more files i one below ∙ ap (λ (o : ℕ × Vec ℕ Global). o ∷ drop (i + 1) files) (sym is))
+
+pub is_missing-drop : (files : List (ℕ × Vec ℕ Global)) (i n : ℕ) (one : ℕ × Vec ℕ Global) → i < length files → one ≡ get_or files i one
+    → is_missing n (drop i files) ≡ (not (eqb one.0 n) && is_missing n (drop (i + 1) files))
+is_missing-drop files i n one below is =
+    ap (λ (l : List (ℕ × Vec ℕ Global)). is_missing n l) (drop_more files i one below ∙ ap (λ (o : ℕ × Vec ℕ Global). o ∷ drop (i + 1) files) (sym is))

@@ -7,9 +7,9 @@ use Rattle.dfs_mem.specs.declared.deed.Deed.TheVariants.{Write, Cut, Sync, Say}
 use Rattle.dfs_mem.specs.declared.deed.Kept.{Kept}
 use Rattle.dfs_mem.specs.Files.{bytes_in}
 
--- these files with nothing touched, and nothing said
-abbrev pub start_disk : List (ℕ × Vec ℕ Global) → Disk
-start_disk files = record { files = λ n. settled_file (bytes_in files n); said = [] }
+-- these files with nothing touched, and this said
+abbrev pub start_disk : List (ℕ × Vec ℕ Global) → List ℕ → Disk
+start_disk files said = record { files = λ n. settled_file (bytes_in files n); said = said }
 
 -- the disk with another state of file n
 abbrev pub put : ℕ → FileState → Disk → Disk

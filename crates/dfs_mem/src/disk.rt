@@ -3,8 +3,10 @@ ghost use Rattle.dfs_host.specs.Disk.{IsSound};
 ghost use Rattle.dfs_mem.specs.Files.{bytes_at};
 ghost use Rattle.dfs_mem.specs.Deeds.{start_disk, disk_after};
 
+use crate::choice::Choice;
 use crate::deed::{Deed, Kept, Patch};
-use crate::files::{Files, content, copied, cut_if, write_if};
+use crate::files::{Files, content, copied, cut_if, find, lacks, write_if};
+use crate::track::{Track, file_number, heard_until};
 use std::alloc::{AllocError, Global};
 
 // Keeps a deed for which there is room.
@@ -23,40 +25,45 @@ fn keep(deeds: &mut Vec<Kept>, kept: Kept)
 pub struct MemDisk {
     alloc: Global,
     start: Vec<(u32, Vec<u8>)>,
+    start_said: Vec<u8>,
     deeds: Vec<Kept>,
     last: u64,
     files: Files,
     said: Vec<u8>,
     ghost numbered: { All (λ kept. kept.call ≤ last) deeds.items },
-    ghost reads: { (n : ℕ) → bytes_at files n ≡ ((disk_after deeds.items (start_disk start.items)).files n).bytes },
-    ghost speaks: { said.items ≡ (disk_after deeds.items (start_disk start.items)).said },
-    ghost sound: { (n : ℕ) → IsSound ((disk_after deeds.items (start_disk start.items)).files n) },
+    ghost reads: { (n : ℕ) → bytes_at files n ≡ ((disk_after deeds.items (start_disk start.items start_said.items)).files n).bytes },
+    ghost speaks: { said.items ≡ (disk_after deeds.items (start_disk start.items start_said.items)).said },
+    ghost sound: { (n : ℕ) → IsSound ((disk_after deeds.items (start_disk start.items start_said.items)).files n) },
 }
 
 impl MemDisk {
-    ghost use Rattle.std.specs.Prelude.{◌≡◌, ◌≤◌, ◌+◌, ◌^◌, ◌++◌, [], ◌∷◌, length, take, OnOk, OnErr};
+    ghost use Rattle.std.specs.Prelude.{◌≡◌, ◌≤◌, ◌+◌, ◌^◌, ◌++◌, [], ◌∷◌, length, take, true, false, OnOk, OnErr};
     ghost use Rattle.std.specs.Prelude.{ℕ, IfOk, IsTrue};
-    ghost use Rattle.dfs_host.specs.Disk.{settled_file};
-    ghost use Rattle.dfs_mem.specs.Files.{bytes_in, numbers_differ};
+    ghost use Rattle.dfs_host.specs.Disk.{FileState, settled_file};
+    ghost use Rattle.dfs_mem.specs.Files.{bytes_in, is_missing, numbers_differ};
+    ghost use Rattle.dfs_mem.specs.Images.{disk_until, image_in, AreImages};
+    ghost use Rattle.dfs_mem.specs.Track.{file_of, file_step};
     ghost use Rattle.dfs_mem.specs.Deeds.{write_step, cut_step, sync_step, say_step, spoken};
     ghost use Rattle.dfs_mem.specs.MemDisk.{disk_of, past_of, IsSame};
 
-    // A disk with these files, each settled, and with nothing said.
-    pub fn new(alloc: Global, start: Vec<(u32, Vec<u8>)>) -> Result<Self, AllocError>
+    // A disk with these files, each settled, and with this said.
+    pub fn new(alloc: Global, start: Vec<(u32, Vec<u8>)>, said: Vec<u8>) -> Result<Self, AllocError>
         requires { IsTrue (numbers_differ start.items) }
         ensures files { IfOk result (λ disk. (n : ℕ) → (disk_of disk).files n ≡ settled_file (bytes_in start.items n)) }
-        ensures said { IfOk result (λ disk. (disk_of disk).said ≡ []) }
+        ensures said { IfOk result (λ disk. (disk_of disk).said ≡ said.items) }
         ensures past { IfOk result (λ disk. past_of disk ≡ []) }
         ensures last { IfOk result (λ disk. disk.last ≡ 0) }
     {
         let files = copied(alloc, &start)?;
+        let now = said.to_vec(alloc)?;
         Ok(MemDisk {
             alloc,
             start,
+            start_said: said,
             deeds: Vec::new(alloc),
             last: 0,
             files,
-            said: Vec::new(alloc),
+            said: now,
         })
     }
 
@@ -144,5 +151,107 @@ impl MemDisk {
         keep(&mut self.deeds, Kept { call, deed });
         self.last = call;
         Ok(())
+    }
+
+    // The state of a file after the first `moment` calls.
+    fn tracked(&self, moment: u64, number: u32) -> Result<Track, AllocError>
+        ensures { IfOk result (λ track. file_of track ≡ (disk_until self.now moment).files number) }
+    {
+        let bytes = find(&self.start, number);
+        let track = Track::until(self.alloc, bytes, &self.deeds, moment, number)?;
+        Ok(track)
+    }
+
+    // What was said after the first `moment` calls.
+    fn said_until(&self, moment: u64) -> Result<Vec<u8>, AllocError>
+        ensures { IfOk result (λ said. said.items ≡ (disk_until self.now moment).said) }
+    {
+        let said = heard_until(self.alloc, &self.start_said, &self.deeds, moment)?;
+        Ok(said)
+    }
+
+    // Adds the image of this file, unless the list has it.
+    fn add(
+        &self,
+        images: &mut Vec<(u32, Vec<u8>)>,
+        choice: Choice,
+        number: u32,
+    ) -> Result<(), AllocError>
+        requires { AreImages self.now choice images.old.items }
+        ensures images { OnOk result (AreImages self.now choice images.new.items) }
+        ensures added { OnOk result (is_missing number images.new.items ≡ false) }
+        ensures keeps { OnOk result ((n : ℕ) → is_missing n images.new.items ≡ true → is_missing n images.old.items ≡ true) }
+    {
+        if !lacks(images, number) {
+            return Ok(());
+        }
+        let track = self.tracked(choice.moment, number)?;
+        let bytes = track.image(self.alloc, choice)?;
+        images.push((number, bytes))?;
+        Ok(())
+    }
+
+    // The images of the files that were there at the start.
+    fn images_of_start(&self, choice: Choice) -> Result<Vec<(u32, Vec<u8>)>, AllocError>
+        ensures images { IfOk result (λ images. AreImages self.now choice images.items) }
+        ensures every { IfOk result (λ images. (n : ℕ) → is_missing n images.items ≡ true → is_missing n self.now.start.items ≡ true) }
+    {
+        let mut images = Vec::new(self.alloc);
+        let start: &[(u32, Vec<u8>)] = &self.start;
+        for (number, _) in start {
+            self.add(&mut images, choice, *number)?;
+        }
+        Ok(images)
+    }
+
+    // Adds the image of the file that the deed is on, unless the list has it.
+    fn add_of(
+        &self,
+        images: &mut Vec<(u32, Vec<u8>)>,
+        choice: Choice,
+        deed: &Deed,
+    ) -> Result<(), AllocError>
+        requires { AreImages self.now choice images.old.items }
+        ensures images { OnOk result (AreImages self.now choice images.new.items) }
+        ensures others { OnOk result ((n : ℕ) → is_missing n images.new.items ≡ true → (file : FileState) → file_step n deed.now file ≡ file) }
+        ensures keeps { OnOk result ((n : ℕ) → is_missing n images.new.items ≡ true → is_missing n images.old.items ≡ true) }
+    {
+        match file_number(deed) {
+            Some(number) => {
+                self.add(images, choice, number)?;
+                Ok(())
+            }
+            None => Ok(()),
+        }
+    }
+
+    // The images of all files.
+    fn images(&self, choice: Choice) -> Result<Vec<(u32, Vec<u8>)>, AllocError>
+        ensures differ { IfOk result (λ images. IsTrue (numbers_differ images.items)) }
+        ensures bytes { IfOk result (λ images. (n : ℕ) → bytes_in images.items n ≡ image_in self.now choice n) }
+    {
+        let mut images = self.images_of_start(choice)?;
+        let deeds: &[Kept] = &self.deeds;
+        for kept in deeds {
+            self.add_of(&mut images, choice, &kept.deed)?;
+        }
+        Ok(images)
+    }
+
+    // An image of the disk after its first calls, each file settled.
+    pub fn image(&self, choice: Choice) -> Result<MemDisk, AllocError>
+        ensures files { IfOk result (λ disk. (n : ℕ) → (disk_of disk).files n ≡ settled_file (image_in self.now choice n)) }
+        ensures said { IfOk result (λ disk. (disk_of disk).said ≡ (disk_until self.now choice.moment).said) }
+        ensures past { IfOk result (λ disk. past_of disk ≡ []) }
+        ensures last { IfOk result (λ disk. disk.last ≡ 0) }
+    {
+        let images = self.images(choice)?;
+        let said = self.said_until(choice.moment)?;
+        let image = MemDisk::new(self.alloc, images, said)?;
+        Ok(image)
+    }
+
+    pub fn alloc(&self) -> Global {
+        self.alloc
     }
 }

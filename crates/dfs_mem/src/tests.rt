@@ -3,8 +3,9 @@ ghost use Rattle.dfs_host.specs.Counts.{RoseBy};
 ghost use Rattle.dfs_host.specs.Host.{silent_state};
 ghost use Rattle.std.specs.Prelude.{[]};
 
-use crate::{Call, MemHost, MemSource};
+use crate::{Call, Choice, Fill, Length, MemHost, MemSource};
 use dfs_host::{Failed, Host, Source};
+use std::alloc::Global;
 use std::test::Fail;
 
 // A host that tells nothing. It reads zeros, and each second call fails.
@@ -166,5 +167,45 @@ fn takes_go_by_their_cuts(rt: HostRuntime) -> Result<(), Fail> {
         assert_eq!(rt; source.take(&mut out), want);
     }
     assert_eq!(rt; out.as_slice(), b"efd".as_slice());
+    Ok(())
+}
+
+// A host whose file 1 held `abcd`, was written past its end from place 2 on, cut to one byte and then synced.
+fn written_and_cut(alloc: Global) -> Result<MemHost, Fail> {
+    let mut files = Vec::new(alloc);
+    files.push((1, b"abcd".to_vec(alloc)?))?;
+    let mut host = MemHost::new(alloc, files, Vec::new(alloc))?;
+    host.write_at(1, 2, b"XYZ")?;
+    host.say(b"hi")?;
+    host.cut(1, 1)?;
+    host.sync(1)?;
+    Ok(host)
+}
+
+#[test]
+fn an_image_is_what_a_crash_may_leave(rt: HostRuntime) -> Result<(), Fail> {
+    let host = written_and_cut(rt.alloc())?;
+    let last = host.calls();
+    for (moment, length, fill, want) in [
+        (0, Length::Greatest, Fill::Byte(63), b"abcd".as_slice()),
+        (1, Length::Least, Fill::Settled, b"abcd".as_slice()),
+        (1, Length::Least, Fill::Latest, b"abXY".as_slice()),
+        (1, Length::Least, Fill::Byte(63), b"ab??".as_slice()),
+        (1, Length::Greatest, Fill::Settled, b"abcd\0".as_slice()),
+        (2, Length::Greatest, Fill::Latest, b"abXYZ".as_slice()),
+        (2, Length::Greatest, Fill::Byte(63), b"ab???".as_slice()),
+        (3, Length::Least, Fill::Latest, b"a".as_slice()),
+        (3, Length::Greatest, Fill::Latest, b"ab\0\0\0".as_slice()),
+        (4, Length::Greatest, Fill::Byte(63), b"a".as_slice()),
+    ] {
+        let moment = last.min(moment);
+        let image = host.image(Choice {
+            moment,
+            length,
+            fill,
+        })?;
+        assert_eq!(rt; image.file(1), want);
+        assert_eq!(rt; image.said().len(), if moment < 2 { 0 } else { 2 });
+    }
     Ok(())
 }

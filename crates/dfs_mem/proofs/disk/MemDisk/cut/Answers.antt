@@ -10,9 +10,9 @@ use Rattle.dfs_mem.proofs.disk.MemDisk.cut.Goals as goal
 pub invariant_of-self-2 : goal.invariant_of-self-2
 invariant_of-self-2 c =
     let mem = c.args.self.now in
-    let after = after_one mem.start.items mem.deeds.items _ _ _ c.keep.ensures c.reserve.ensures.items in
+    let after = after_one mem.start.items mem.start_said.items mem.deeds.items _ _ _ c.keep.ensures c.reserve.ensures.items in
     record {
-      numbered = numbered_one mem.start.items mem.deeds.items _ _ _ c.keep.ensures c.reserve.ensures.items mem.last mem.numbered c.requires.later;
+      numbered = numbered_one mem.start.items mem.start_said.items mem.deeds.items _ _ _ c.keep.ensures c.reserve.ensures.items mem.last mem.numbered c.requires.later;
       reads = λ m. c.cut_if.ensures m
           ∙ reads_put c.args.file (λ k. bytes_at mem.files k) (disk_of mem) mem.reads c.args.done (cut_to c.args.len ((disk_of mem).files c.args.file)) _
           (ap (λ (l : List ℕ). take c.args.len l) (mem.reads c.args.file)) m
@@ -25,10 +25,10 @@ invariant_of-self-2 c =
 pub returns-clause-disk : goal.returns-clause-disk
 returns-clause-disk c =
     let mem = c.args.self.now in
-    let after = after_one mem.start.items mem.deeds.items _ _ _ c.keep.ensures c.reserve.ensures.items in
+    let after = after_one mem.start.items mem.start_said.items mem.deeds.items _ _ _ c.keep.ensures c.reserve.ensures.items in
     after
 
 pub returns-clause-past : goal.returns-clause-past
 returns-clause-past c =
     let mem = c.args.self.now in
-    before_one mem.start.items mem.deeds.items _ _ _ c.keep.ensures c.reserve.ensures.items
+    before_one mem.start.items mem.start_said.items mem.deeds.items _ _ _ c.keep.ensures c.reserve.ensures.items

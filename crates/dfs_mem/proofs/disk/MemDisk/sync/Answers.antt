@@ -9,9 +9,9 @@ use Rattle.dfs_mem.proofs.disk.MemDisk.sync.Goals as goal
 pub invariant_of-self-2 : goal.invariant_of-self-2
 invariant_of-self-2 c =
     let mem = c.args.self.now in
-    let after = after_one mem.start.items mem.deeds.items _ _ _ c.keep.ensures c.reserve.ensures.items in
+    let after = after_one mem.start.items mem.start_said.items mem.deeds.items _ _ _ c.keep.ensures c.reserve.ensures.items in
     record {
-      numbered = numbered_one mem.start.items mem.deeds.items _ _ _ c.keep.ensures c.reserve.ensures.items mem.last mem.numbered c.requires;
+      numbered = numbered_one mem.start.items mem.start_said.items mem.deeds.items _ _ _ c.keep.ensures c.reserve.ensures.items mem.last mem.numbered c.requires;
       reads = λ m. mem.reads m ∙ sym (reads_sync c.args.file (disk_of mem) m) ∙ ap (λ (disk : Disk). (disk.files m).bytes) (sym after);
       speaks = mem.speaks ∙ ap (λ (disk : Disk). disk.said) (sym after);
       sound = λ m. subst (λ (disk : Disk). IsSound (disk.files m)) (sym after)
@@ -21,10 +21,10 @@ invariant_of-self-2 c =
 pub returns-clause-disk : goal.returns-clause-disk
 returns-clause-disk c =
     let mem = c.args.self.now in
-    let after = after_one mem.start.items mem.deeds.items _ _ _ c.keep.ensures c.reserve.ensures.items in
+    let after = after_one mem.start.items mem.start_said.items mem.deeds.items _ _ _ c.keep.ensures c.reserve.ensures.items in
     after
 
 pub returns-clause-past : goal.returns-clause-past
 returns-clause-past c =
     let mem = c.args.self.now in
-    before_one mem.start.items mem.deeds.items _ _ _ c.keep.ensures c.reserve.ensures.items
+    before_one mem.start.items mem.start_said.items mem.deeds.items _ _ _ c.keep.ensures c.reserve.ensures.items

@@ -1,0 +1,80 @@
+-- The state of one file, followed through the deeds.
+use Rattle.std.proofs.Common.{◌≡◌, inl, inr, ℕ, ◌+◌, ◌<◌, ◌≤◌, Bool, true, false, cond, eqb, leb, List, [], ◌∷◌, ◌++◌, ◌||◌, length, get_or, drop, refl, sym, ◌∙◌, ap, add-one}
+use Rattle.std.proofs.Math.Bool.{or_assoc}
+use Rattle.std.proofs.lemmas.Bool.{le-leb, lt-leb}
+use Rattle.std.proofs.lemmas.Bool.Decides.{eqb_tells}
+use Rattle.std.proofs.lemmas.List.{drop_more}
+use Rattle.dfs_host.specs.Disk.{FileState, Disk, is_within, written, cut_to, synced}
+use Rattle.dfs_mem.specs.declared.deed.Deed.{Deed}
+use Rattle.dfs_mem.specs.declared.deed.Deed.TheVariants.{Write, Cut, Sync, Say}
+use Rattle.dfs_mem.specs.declared.deed.Kept.{Kept}
+use Rattle.dfs_mem.specs.Deeds.{step, disk_after, put, tried}
+use Rattle.dfs_mem.specs.Images.{deeds_until, values_of}
+use Rattle.dfs_mem.specs.Track.{covers, file_step, file_after, said_step, said_after}
+
+pub same_file : (a b : FileState) → a.bytes ≡ b.bytes → a.settled ≡ b.settled → ((place : ℕ) → a.touched place ≡ b.touched place) → a.least ≡ b.least → a.greatest ≡ b.greatest → a ≡ b
+same_file a b bytes settled touched least greatest = λ i. record { bytes = bytes i; settled = settled i; touched = λ place. touched place i; least = least i; greatest = greatest i }
+
+or_none : (b : Bool) → (b || false) ≡ b
+or_none true = refl
+or_none false = refl
+
+-- one range more
+pub covers_push : (ranges : List (ℕ × ℕ)) (at count place : ℕ) → covers (ranges ++ (at, count) ∷ []) place ≡ (covers ranges place || is_within at count place)
+covers_push [] at count place = or_none (is_within at count place)
+covers_push (range ∷ ranges) at count place =
+    ap (λ b. is_within range.0 range.1 place || b) (covers_push ranges at count place)
+    ∙ sym (or_assoc (is_within range.0 range.1 place) (covers ranges place) (is_within at count place))
+
+-- the range at place i, and the rest
+pub covers_drop : (ranges : List (ℕ × ℕ)) (i place : ℕ) (d : ℕ × ℕ) → i < length ranges
+    → covers (drop i ranges) place ≡ (is_within (get_or ranges i d).0 (get_or ranges i d).1 place || covers (drop (i + 1) ranges) place)
+covers_drop ranges i place d below = ap (λ (l : List (ℕ × ℕ)). covers l place) (drop_more ranges i d below)
+
+pub values_more : (f : ℕ → ℕ) (n : ℕ) → values_of f (n + 1) ≡ values_of f n ++ f n ∷ []
+values_more f n = ap (λ k. values_of f k) (add-one n)
+
+-- the deed at place i, and the rest
+
+until_drop : (deeds : List Kept) (i moment : ℕ) (kept : Kept) → i < length deeds → kept ≡ get_or deeds i kept
+    → deeds_until moment (drop i deeds) ≡ cond (leb kept.call moment) (kept ∷ deeds_until moment (drop (i + 1) deeds)) []
+until_drop deeds i moment kept below is =
+    ap (λ (l : List Kept). deeds_until moment l) (drop_more deeds i kept below ∙ ap (λ (k : Kept). k ∷ drop (i + 1) deeds) (sym is))
+
+pub until_goes : (deeds : List Kept) (i moment : ℕ) (kept : Kept) → i < length deeds → kept ≡ get_or deeds i kept → kept.call ≤ moment
+    → deeds_until moment (drop i deeds) ≡ kept ∷ deeds_until moment (drop (i + 1) deeds)
+until_goes deeds i moment kept below is early =
+    until_drop deeds i moment kept below is
+    ∙ ap (λ b. cond b (kept ∷ deeds_until moment (drop (i + 1) deeds)) []) (le-leb kept.call moment early)
+
+pub until_ends : (deeds : List Kept) (i moment : ℕ) (kept : Kept) → i < length deeds → kept ≡ get_or deeds i kept → moment < kept.call
+    → deeds_until moment (drop i deeds) ≡ []
+until_ends deeds i moment kept below is late =
+    until_drop deeds i moment kept below is
+    ∙ ap (λ b. cond b (kept ∷ deeds_until moment (drop (i + 1) deeds)) []) (lt-leb kept.call moment late)
+
+put_file : (n m : ℕ) (next : FileState → FileState) (disk : Disk) → (put m (next (disk.files m)) disk).files n ≡ cond (eqb n m) (next (disk.files n)) (disk.files n)
+put_file n m next disk = elim (eqb_tells n m) [
+  | inl hit ↦ ap (λ b. cond b (next (disk.files m)) (disk.files n)) hit.0 ∙ ap (λ k. next (disk.files k)) (sym hit.1) ∙ sym (ap (λ b. cond b (next (disk.files n)) (disk.files n)) hit.0)
+  | inr miss ↦ ap (λ b. cond b (next (disk.files m)) (disk.files n)) miss.0 ∙ sym (ap (λ b. cond b (next (disk.files n)) (disk.files n)) miss.0)
+]
+
+step_file : (n : ℕ) (deed : Deed) (disk : Disk) → (step deed disk).files n ≡ file_step n deed (disk.files n)
+step_file n (Write m patch done) disk = put_file n m (λ file. tried done (written patch.at patch.bytes.items file) file) disk
+step_file n (Cut m len done) disk = put_file n m (λ file. tried done (cut_to len file) file) disk
+step_file n (Sync m) disk = put_file n m (λ file. synced file) disk
+step_file n (Say bytes count) disk = refl
+
+pub disk_file : (n : ℕ) (deeds : List Kept) (disk : Disk) → (disk_after deeds disk).files n ≡ file_after n deeds (disk.files n)
+disk_file n [] disk = refl
+disk_file n (kept ∷ deeds) disk = disk_file n deeds (step kept.deed disk) ∙ ap (λ (file : FileState). file_after n deeds file) (step_file n kept.deed disk)
+
+step_said : (deed : Deed) (disk : Disk) → (step deed disk).said ≡ said_step deed disk.said
+step_said (Write m patch done) disk = refl
+step_said (Cut m len done) disk = refl
+step_said (Sync m) disk = refl
+step_said (Say bytes count) disk = refl
+
+pub disk_said : (deeds : List Kept) (disk : Disk) → (disk_after deeds disk).said ≡ said_after deeds disk.said
+disk_said [] disk = refl
+disk_said (kept ∷ deeds) disk = disk_said deeds (step kept.deed disk) ∙ ap (λ (said : List ℕ). said_after deeds said) (step_said kept.deed disk)

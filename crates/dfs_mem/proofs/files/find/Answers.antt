@@ -1,0 +1,28 @@
+use Rattle.std.proofs.Common.{◌<◌, ◌+◌, length, cond, drop, sym, ◌∙◌, ap, arith}
+use Rattle.std.proofs.lemmas.Bool.{eq-eqb, ne_eqb}
+use Rattle.dfs_mem.specs.Files.{bytes_in}
+use Rattle.dfs_mem.proofs.Given.{bytes_in-drop}
+use Rattle.dfs_mem.proofs.files.find.Goals as goal
+
+pub returns-then-other-number : goal.returns-then-other-number
+returns-then-other-number c =
+    let files = c.args.files.now in
+    let one = c.loop-other-item.result in
+    let i = c.loop-other.other-index in
+    let n = c.args.number in
+    let below : i < length files = omega arith in
+    c.deref.ensures.value
+    ∙ sym (ap (λ b. cond b one.1.items (bytes_in (drop (i + 1) files) n)) (eq-eqb one.0 n c.if-other-number.true))
+    ∙ sym (bytes_in-drop files i n one below c.loop-other-item.is)
+    ∙ c.loop-other.invariant
+
+pub loop-other-preserved : goal.loop-other-preserved
+loop-other-preserved c =
+    let files = c.args.files.now in
+    let one = c.loop-other-item.result in
+    let i = c.loop-other.other-index in
+    let n = c.args.number in
+    let below : i < length files = omega arith in
+    sym (ap (λ b. cond b one.1.items (bytes_in (drop (i + 1) files) n)) (ne_eqb one.0 n c.if-other-number.false))
+    ∙ sym (bytes_in-drop files i n one below c.loop-other-item.is)
+    ∙ c.loop-other.invariant

@@ -1,0 +1,236 @@
+ghost use Rattle.std.specs.Prelude.{◌≡◌, ◌≢◌, ℕ, IfOk, OnOk, IfNone, IfSome, slice_index};
+ghost use Rattle.dfs_host.specs.Disk.{FileState, is_within, overwritten};
+ghost use Rattle.dfs_mem.specs.Images.{deeds_until};
+ghost use Rattle.dfs_mem.specs.Track.{covers, file_step, said_step, said_after};
+
+use crate::choice::{Choice, Fill, Length};
+use crate::deed::{Deed, Kept, Patch};
+use std::alloc::{AllocError, Global};
+
+// The state of one file, and the ranges that were written since its last sync, each a place and a length.
+#[derive(Drop)]
+pub struct Track {
+    bytes: Vec<u8>,
+    settled: Vec<u8>,
+    touched: Vec<(u64, u64)>,
+    least: u64,
+    greatest: u64,
+}
+
+// The old bytes with the new ones from a place on.
+fn patched(alloc: Global, at: u64, new: &[u8], old: &[u8]) -> Result<Vec<u8>, AllocError>
+    ensures { IfOk result (λ made. made.items ≡ overwritten at new.now old.now) }
+{
+    let front = (at as usize).min(old.len());
+    let mut made = old[..front].to_vec(alloc)?;
+    made.extend_from_slice(new)?;
+    if at as usize >= old.len() || new.len() >= old.len() - at as usize {
+        return Ok(made);
+    }
+    made.extend_from_slice(&old[at as usize + new.len()..])?;
+    Ok(made)
+}
+
+fn is_in(range: (u64, u64), place: u64) -> bool
+    ensures { result ≡ is_within range.0 range.1 place }
+{
+    range.0 <= place && place - range.0 < range.1
+}
+
+fn is_covered(ranges: &[(u64, u64)], place: u64) -> bool
+    ensures { result ≡ covers ranges.now place }
+{
+    for range in ranges {
+        if is_in(*range, place) {
+            return true;
+        }
+    }
+    false
+}
+
+// The byte at a place, or 0 behind the end.
+fn byte_at(bytes: &[u8], place: u64) -> u8
+    ensures { result ≡ slice_index bytes.now place }
+{
+    match bytes.get(place as usize) {
+        Some(byte) => *byte,
+        None => 0,
+    }
+}
+
+// Adds what a deed said.
+fn hear(said: &mut Vec<u8>, deed: &Deed) -> Result<(), AllocError>
+    ensures { OnOk result (said.new.items ≡ said_step deed.now said.old.items) }
+{
+    if let Deed::Say { bytes, count } = deed {
+        let end = (*count).min(bytes.len());
+        said.extend_from_slice(&bytes[..end])?;
+    }
+    Ok(())
+}
+
+// What was said after the deeds of the first `moment` calls, where this was said before.
+pub fn heard_until(
+    alloc: Global,
+    before: &[u8],
+    deeds: &[Kept],
+    moment: u64,
+) -> Result<Vec<u8>, AllocError>
+    ensures { IfOk result (λ said. said.items ≡ said_after (deeds_until moment deeds.now) before.now) }
+{
+    let mut said = before.to_vec(alloc)?;
+    for kept in deeds {
+        if kept.call > moment {
+            return Ok(said);
+        }
+        hear(&mut said, &kept.deed)?;
+    }
+    Ok(said)
+}
+
+// The file that a deed is on.
+pub fn file_number(deed: &Deed) -> Option<u32>
+    ensures none { IfNone result ((n : ℕ) (file : FileState) → file_step n deed.now file ≡ file) }
+    ensures some { IfSome result (λ number. (n : ℕ) (file : FileState) → n ≢ number → file_step n deed.now file ≡ file) }
+{
+    match deed {
+        Deed::Write { file, .. } | Deed::Cut { file, .. } | Deed::Sync { file } => Some(*file),
+        Deed::Say { .. } => None,
+    }
+}
+
+impl Track {
+    ghost use Rattle.std.specs.Prelude.{◌≡◌, IfOk, OnOk};
+    ghost use Rattle.dfs_host.specs.Disk.{settled_file, written, cut_to, synced};
+    ghost use Rattle.dfs_mem.specs.Deeds.{tried};
+    ghost use Rattle.dfs_mem.specs.Images.{deeds_until, left_at, length_of, image_of};
+    ghost use Rattle.dfs_mem.specs.Track.{file_of, file_step, file_after};
+
+    // A file with nothing touched.
+    pub fn new(alloc: Global, bytes: &[u8]) -> Result<Track, AllocError>
+        ensures { IfOk result (λ track. file_of track ≡ settled_file bytes.now) }
+    {
+        Ok(Track {
+            bytes: bytes.to_vec(alloc)?,
+            settled: bytes.to_vec(alloc)?,
+            touched: Vec::new(alloc),
+            least: bytes.len() as u64,
+            greatest: bytes.len() as u64,
+        })
+    }
+
+    fn write(&mut self, alloc: Global, patch: &Patch, done: bool) -> Result<(), AllocError>
+        ensures { OnOk result (file_of self.new ≡ tried done (written patch.now.at patch.now.bytes.items (file_of self.old)) (file_of self.old)) }
+    {
+        let bytes: &[u8] = &patch.bytes;
+        let count = bytes.len() as u64;
+        self.touched.push((patch.at, count))?;
+        self.greatest = self.greatest.max(patch.at + count);
+        if done {
+            self.bytes = patched(alloc, patch.at, bytes, &self.bytes)?;
+        }
+        Ok(())
+    }
+
+    fn cut(&mut self, len: u64, done: bool)
+        ensures { file_of self.new ≡ tried done (cut_to len (file_of self.old)) (file_of self.old) }
+    {
+        self.least = self.least.min(len);
+        if done {
+            self.bytes.truncate(len as usize);
+        }
+    }
+
+    fn sync(&mut self, alloc: Global) -> Result<(), AllocError>
+        ensures { OnOk result (file_of self.new ≡ synced (file_of self.old)) }
+    {
+        self.settled = self.bytes.to_vec(alloc)?;
+        self.touched = Vec::new(alloc);
+        self.least = self.bytes.len() as u64;
+        self.greatest = self.bytes.len() as u64;
+        Ok(())
+    }
+
+    // Follows a deed, as the file of this number.
+    pub fn follow(&mut self, alloc: Global, number: u32, deed: &Deed) -> Result<(), AllocError>
+        ensures { OnOk result (file_of self.new ≡ file_step number deed.now (file_of self.old)) }
+    {
+        match deed {
+            Deed::Write { file, patch, done } => {
+                if number == *file {
+                    return self.write(alloc, patch, *done);
+                }
+                Ok(())
+            }
+            Deed::Cut { file, len, done } => {
+                if number == *file {
+                    self.cut(*len, *done);
+                    return Ok(());
+                }
+                Ok(())
+            }
+            Deed::Sync { file } => {
+                if number == *file {
+                    return self.sync(alloc);
+                }
+                Ok(())
+            }
+            Deed::Say { .. } => Ok(()),
+        }
+    }
+
+    // The file of this number after the deeds of the first `moment` calls, where it had these bytes at first.
+    pub fn until(
+        alloc: Global,
+        bytes: &[u8],
+        deeds: &[Kept],
+        moment: u64,
+        number: u32,
+    ) -> Result<Track, AllocError>
+        ensures { IfOk result (λ track. file_of track ≡ file_after number (deeds_until moment deeds.now) (settled_file bytes.now)) }
+    {
+        let mut track = Track::new(alloc, bytes)?;
+        for kept in deeds {
+            if kept.call > moment {
+                return Ok(track);
+            }
+            track.follow(alloc, number, &kept.deed)?;
+        }
+        Ok(track)
+    }
+
+    fn length(&self, length: Length) -> u64
+        ensures { result ≡ length_of length (file_of self.now) }
+    {
+        match length {
+            Length::Least => self.least,
+            Length::Greatest => self.greatest,
+        }
+    }
+
+    fn left(&self, fill: Fill, place: u64) -> u8
+        ensures { result ≡ left_at fill (file_of self.now) place }
+    {
+        if !is_covered(&self.touched, place) {
+            return byte_at(&self.settled, place);
+        }
+        match fill {
+            Fill::Settled => byte_at(&self.settled, place),
+            Fill::Latest => byte_at(&self.bytes, place),
+            Fill::Byte(byte) => byte,
+        }
+    }
+
+    // The image of the file.
+    pub fn image(&self, alloc: Global, choice: Choice) -> Result<Vec<u8>, AllocError>
+        ensures { IfOk result (λ bytes. bytes.items ≡ image_of choice (file_of self.now)) }
+    {
+        let length = self.length(choice.length);
+        let mut bytes = Vec::new(alloc);
+        for place in 0..length {
+            let left = self.left(choice.fill, place);
+            bytes.push(left)?;
+        }
+        Ok(bytes)
+    }
+}

@@ -1,0 +1,63 @@
+-- What a line leaves, by its answer.
+use Rattle.std.proofs.Common.{◌≡◌, ℕ, List, [], sym, refl, subst}
+use Rattle.std.specs.Prelude.{Result, Ok, Err, IfErr, OnOk, Some, Option}
+use Rattle.dfs_host.specs.Host.{HostState, said_of}
+use Rattle.dfs_host.specs.declared.fault.Fault.TheVariants as fault
+use Rattle.dfs_script.specs.Script.{lines_of}
+use Rattle.dfs_session.specs.declared.session.Session.{Session as LiveSession}
+use Rattle.dfs_session.specs.Files.{value_on}
+use Rattle.dfs_session.specs.Session.{Registry}
+use Rattle.deltafs.specs.declared.status.Status.TheVariants.{Done}
+use Rattle.deltafs.specs.declared.status.Stop.{Stop}
+use Rattle.deltafs.specs.declared.status.Stop.TheVariants as stop
+use Rattle.deltafs.specs.Causes.{SourceFaultsOf}
+use Rattle.deltafs.specs.Lines.{LeavesFiles, Goes, status_by, status_after}
+use Rattle.deltafs.specs.Says.{Says, Untaken}
+
+abbrev IsOutput : Stop → Type 0
+IsOutput stop.Output = Unit {0}
+IsOutput (stop.Fault f) = ⊥
+
+-- a line whose reply was said, or not in full, was worked all the same
+pub leaves_said : (result : Result (Unit {0}) Stop) (before after : Registry) (files : Option Registry) → IfErr result (λ s. s ≡ stop.Output) → files ≡ Some after → LeavesFiles result before after files
+leaves_said (Ok u) before after files only is = is
+leaves_said (Err stop.Output) before after files only is = is
+leaves_said (Err (stop.Fault f)) before after files only is = absurd (subst IsOutput (sym only) tt)
+
+pub on_ok : {T E P : Type 0} (result : Result T E) → P → OnOk result P
+on_ok (Ok x) p = p
+on_ok (Err e) p = tt
+
+-- A stop tells nothing of what was not taken.
+
+pub stops_rest : (s : Stop) (old : Registry) (script rest other said : List ℕ) (files : Option Registry) → Says (status_by s) old script rest said files → Says (status_by s) old script other said files
+stops_rest (stop.Fault fault.NoMemory) old script rest other said files says = says
+stops_rest (stop.Fault fault.Disk) old script rest other said files says = says
+stops_rest (stop.Fault fault.LogFull) old script rest other said files says = says
+stops_rest (stop.Fault (fault.Changed file at)) old script rest other said files says = says
+stops_rest stop.Output old script rest other said files says = says
+
+pub no_limit : (s : Stop) (limit : ℕ) (script rest : List ℕ) → Untaken (status_by s) limit script rest
+no_limit (stop.Fault fault.NoMemory) limit script rest = tt
+no_limit (stop.Fault fault.Disk) limit script rest = tt
+no_limit (stop.Fault fault.LogFull) limit script rest = tt
+no_limit (stop.Fault (fault.Changed file at)) limit script rest = tt
+no_limit stop.Output limit script rest = tt
+
+pub limit_after : (result : Result (Unit {0}) Stop) (limit : ℕ) (script rest : List ℕ) → Untaken Done limit script rest → Untaken (status_after result) limit script rest
+limit_after (Ok u) limit script rest less = less
+limit_after (Err s) limit script rest less = no_limit s limit script rest
+
+-- no line touches the source
+pub no_source : (result : Result (Unit {0}) Stop) (count : ℕ) → SourceFaultsOf (status_after result) count count
+no_source (Ok u) count = refl
+no_source (Err (stop.Fault fault.NoMemory)) count = refl
+no_source (Err (stop.Fault fault.Disk)) count = refl
+no_source (Err (stop.Fault fault.LogFull)) count = refl
+no_source (Err (stop.Fault (fault.Changed file at))) count = refl
+no_source (Err stop.Output) count = refl
+
+-- the end of a script of which all was taken
+pub says_end : (result : Result (Unit {0}) Stop) (old : Registry) (taken : List ℕ) (host : HostState) (session : LiveSession) → Goes result old (lines_of taken) taken [] host session → Says (status_after result) old taken [] (said_of host) (value_on host)
+says_end (Ok u) old taken host session after = record { said_all = after.said; none_left = refl; stands = after.value }
+says_end (Err s) old taken host session says = says

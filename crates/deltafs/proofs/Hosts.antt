@@ -1,0 +1,91 @@
+-- What is so of a session, as the host goes on by calls that leave the files.
+use Rattle.std.proofs.Common.{◌≡◌, ◌∙◌, ℕ, List, [], ◌∷◌, length, take, refl, sym, ap, subst, arith}
+use Rattle.std.specs.Prelude.{IsTrue}
+use Rattle.std.specs.List.{AllByRecursion}
+use Rattle.dfs_host.specs.Disk.{FileState, IsSettled}
+use Rattle.dfs_host.specs.Host.{HostState, bytes_of}
+use Rattle.dfs_registry.specs.Standing.{RegistryStands}
+use Rattle.dfs_script.specs.declared.JobWord.{JobWord}
+use Rattle.dfs_session.specs.declared.job.Job.{Job as LiveJob}
+use Rattle.dfs_session.specs.declared.session.Session.{Session as LiveSession}
+use Rattle.dfs_session.specs.Files.{publications_of, value, value_on}
+use Rattle.dfs_session.specs.Session.{Session}
+use Rattle.dfs_session.specs.Sound.{LogOf, jobs_of, listed_in}
+use Rattle.dfs_session.specs.Stands.{Stands}
+use Rattle.deltafs.specs.declared.status.Status.{Status}
+use Rattle.deltafs.specs.declared.status.Status.TheVariants.{Done}
+use Rattle.deltafs.specs.Causes.{HasCause, DiskFaultsOf, SayFaultsOf}
+use Rattle.deltafs.specs.Lines.{IsReady}
+
+-- Each file of the later host is that of the earlier one.
+abbrev pub HasFilesOf : HostState → HostState → Type 0
+HasFilesOf old new = (n : ℕ) → new.disk.files n ≡ old.disk.files n
+
+module _ (old new : HostState) (same : HasFilesOf old new) where
+  all_same : new.disk.files ≡ old.disk.files
+  all_same = λ i n. same n i
+
+  bytes_same : bytes_of new ≡ bytes_of old
+  bytes_same = λ i n. (same n i).bytes
+
+  pub value_stays : value_on new ≡ value_on old
+  value_stays = ap value bytes_same
+
+  pub registry_stays : (session : LiveSession) → RegistryStands old session.registry → RegistryStands new session.registry
+  registry_stays session stands = record {
+    settled = subst IsSettled (sym (same 0)) stands.settled;
+    listing = stands.listing;
+    file = ap (λ (file : FileState). file.bytes) (same 0) ∙ stands.file;
+  }
+
+  log_stays : (e : JobWord × LiveJob) → LogOf old e → LogOf new e
+  log_stays e stands = record {
+    len = ap length (ap (λ (file : FileState). file.bytes) (same e.1.log.file)) ∙ stands.len;
+    header_inside = stands.header_inside;
+    header = ap (take 12) (ap (λ (file : FileState). file.bytes) (same e.1.log.file)) ∙ stands.header;
+  }
+
+  pub logs_stay : (es : List (JobWord × LiveJob)) → AllByRecursion (LogOf old) es → AllByRecursion (LogOf new) es
+  logs_stay [] all = tt
+  logs_stay (e ∷ es) all = (log_stays e all.0, logs_stay es all.1)
+
+  pub stands_stays : (session : LiveSession) (s : Session) → Stands old session s → Stands new session s
+  stands_stays session s stands = record {
+    registry = stands.registry ∙ ap (λ (files : ℕ → List ℕ). publications_of files (listed_in session)) (sym bytes_same);
+    settled = subst (λ (files : ℕ → FileState). AllByRecursion (λ l. IsSettled (files l.job)) (listed_in session)) (sym all_same) stands.settled;
+    jobs = stands.jobs;
+    greatest = stands.greatest;
+    settings = stands.settings;
+  }
+
+-- where the files stay of a host that tells
+pub ready_stays : (old new : HostState) (session : LiveSession) → new.tells ≡ old.tells → (IsTrue old.tells → HasFilesOf old new) → IsReady old session → IsReady new session
+ready_stays old new session tells same ready = record {
+  sound = record {
+    memory = ready.sound.memory;
+    registry = λ told. registry_stays old new (same (sym tells ∙ told)) session (ready.sound.registry (sym tells ∙ told));
+    logs = λ told. logs_stay old new (same (sym tells ∙ told)) (jobs_of session) (ready.sound.logs (sym tells ∙ told));
+  };
+  settings = ready.settings;
+}
+
+-- Causes, one run of calls behind the other.
+
+disk_on : (status : Status) (a b c : ℕ) → b ≡ a → DiskFaultsOf status b c → DiskFaultsOf status a c
+disk_on status a b c same of = subst (λ (n : ℕ). DiskFaultsOf status n c) same of
+
+say_on : (status : Status) (a b c : ℕ) → b ≡ a → SayFaultsOf status b c → SayFaultsOf status a c
+say_on status a b c same of = subst (λ (n : ℕ). SayFaultsOf status n c) same of
+
+-- calls without a fault first
+pub no_cause_on : (status : Status) {old mid new : HostState} → HasCause Done old mid → HasCause status mid new → HasCause status old new
+no_cause_on status {old} {mid} {new} first second = record {
+  tells = second.tells ∙ first.tells;
+  later = omega (arith, first.later, second.later);
+  disk_faults = disk_on status old.disk_faults mid.disk_faults new.disk_faults first.disk_faults second.disk_faults;
+  say_faults = say_on status old.say_faults mid.say_faults new.say_faults first.say_faults second.say_faults;
+  reads = omega (arith, first.reads, second.reads);
+}
+
+pub no_cause : (host : HostState) → HasCause Done host host
+no_cause host = record { tells = refl; later = omega arith; disk_faults = refl; say_faults = refl; reads = omega arith }

@@ -1,0 +1,16 @@
+mod Lists
+mod Operations
+mod Numbered
+mod Values
+mod Images
+mod Opening
+mod Faults
+mod Jobs
+mod Kept
+mod Working
+mod Changing
+mod Selecting
+mod Beginning
+mod Publishing
+mod Choosing
+pub mod Runs

@@ -1,0 +1,5 @@
+use Rattle.dfs_session.proofs.Selecting.{SoFar}
+use Rattle.dfs_session.proofs.selection.select.Given as goal
+
+abbrev pub invariant-loop-index : goal.invariant-loop-index
+invariant-loop-index g l = SoFar (g.H.Host.state l.fn.host) (g.H.Host.state l.host) l.registry.entries l.names l.index l.entries

@@ -1,0 +1,64 @@
+use Rattle.std.proofs.Common.{◌≡◌, ◌∙◌, ℕ, Result, Err, refl, sym, ap, subst}
+use Rattle.std.proofs.lemmas.Result.{err_from_is_err_and}
+use Rattle.std.specs.Global.{Vec}
+use Rattle.dfs_host.specs.declared.fault.Fault.{Fault}
+use Rattle.dfs_host.specs.declared.fault.Fault.TheVariants.{NoMemory, Disk}
+use Rattle.dfs_host.proofs.Causes.{none_yet}
+use Rattle.dfs_host.proofs.Moments.{silent_only, silent_reads}
+use Rattle.dfs_session.specs.Session.{begins_over}
+use Rattle.dfs_session.specs.Worked.{IsWorked}
+use Rattle.dfs_session.proofs.Beginning.{begun_worked, begun_value, begun_images, no_memory_worked, disk_worked, failed_cause, fine_cause}
+use Rattle.dfs_session.proofs.Faults.{sound_refused}
+use Rattle.dfs_session.proofs.Images.{read_images}
+use Rattle.dfs_session.proofs.Kept.{reads_nothing}
+use Rattle.dfs_session.proofs.Values.{stands_value}
+use Rattle.dfs_session.proofs.Working.{same_sound}
+use Rattle.dfs_session.proofs.session.Session.begin_over.Goals as goal
+
+pub returns-in_err-reply : goal.returns-in_err-reply
+returns-in_err-reply g c =
+    let session = c.args.self.now in
+    let host = g.H.Host.state c.args.host.now in
+    let p = err_from_is_err_and c.from_residual.result c.from_residual.ensures.1 in
+    let same : c.from_residual.result ≡ Err NoMemory = p.1 ∙ ap Err (p.2 ∙ c.in_err-reply.ensures.memory) in
+    λ basis is.
+    subst (λ (r : Result (Vec ℕ) Fault). IsWorked (λ s. begins_over s c.args.word basis) host host session session r) (sym same)
+    (no_memory_worked host host session session (λ s. begins_over s c.args.word basis) (silent_reads (reads_nothing host)) (none_yet host) (sound_refused session c.requires.sound.memory) refl
+    (λ s tells stands. stands_value host session s tells c.requires.sound stands) (λ s tells stands. refl)
+    (λ s tells stands. read_images host host session s s.registry tells c.requires.sound stands (reads_nothing host)))
+
+pub returns-in_err-job : goal.returns-in_err-job
+returns-in_err-job g c =
+    let session = c.args.self.now in
+    let host = g.H.Host.state c.args.host.now in
+    let after = g.H.Host.state c.begin.new.host in
+    let p = err_from_is_err_and c.from_residual-in_err-job.result c.from_residual-in_err-job.ensures.1 in
+    let same : c.from_residual-in_err-job.result ≡ Err Disk = p.1 ∙ ap Err p.2 in
+    λ basis is.
+    subst (λ (r : Result (Vec ℕ) Fault). IsWorked (λ s. begins_over s c.args.word basis) host after session session r) (sym same)
+    (disk_worked host after session session (λ s. begins_over s c.args.word basis) (silent_only c.begin.ensures.only) (failed_cause c.begin.result c.in_err-job.field-0.0 c.in_err-job.was c.begin.ensures.cause c.begin.ensures.reads)
+    (sound_refused session c.requires.sound.memory)
+    (λ s tells stands. begun_images host after session c.requires.sound c.requires.last c.begin.ensures.only s s.registry tells stands))
+
+pub returns-in-Ok : goal.returns-in-Ok
+returns-in-Ok g c =
+    let session = c.args.self.now in
+    let host = g.H.Host.state c.args.host.now in
+    let after = g.H.Host.state c.begin.new.host in
+    let begun = c.in_ok-job.ensures in
+    λ basis is.
+    begun_worked host after session c.requires.sound c.requires.last c.begin.ensures.only c.args.word c.in_ok-job.job c.insert.new.self c.in-Ok.ensures.entries begun.sound begun.ids begun.log begun.stands
+    basis c.in_ok-reply.reply (λ tells. begun.entries ∙ is tells) begun.own (fine_cause c.begin.result c.in_ok-job.job c.in_ok-job.was c.begin.ensures.cause c.begin.ensures.reads) c.in_ok-reply.ensures.text
+
+pub returns-in-Err : goal.returns-in-Err
+returns-in-Err g c =
+    let session = c.args.self.now in
+    let host = g.H.Host.state c.args.host.now in
+    let after = g.H.Host.state c.begin.new.host in
+    let sound = c.requires.sound in
+    λ basis is.
+    no_memory_worked host after session (record session { jobs = c.insert.new.self }) (λ s. begins_over s c.args.word basis) (silent_only c.begin.ensures.only)
+    (fine_cause c.begin.result c.in_ok-job.job c.in_ok-job.was c.begin.ensures.cause c.begin.ensures.reads)
+    (sound_refused (record session { jobs = c.insert.new.self }) (same_sound host session c.insert.new.self c.in-Err.ensures.err sound).memory) refl
+    (λ s tells stands. begun_value host after session sound c.requires.last c.begin.ensures.only s tells stands) (λ s tells stands. refl)
+    (λ s tells stands. begun_images host after session sound c.requires.last c.begin.ensures.only s s.registry tells stands)

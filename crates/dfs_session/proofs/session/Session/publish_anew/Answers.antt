@@ -1,0 +1,166 @@
+use Rattle.std.proofs.Common.{◌≡◌, ◌∙◌, ℕ, Option, Some, Result, Err, refl, sym, ap, subst}
+use Rattle.std.proofs.lemmas.Result.{err_from_is_err_and}
+use Rattle.std.specs.BTreeMap.{BTreeMap, is_at}
+use Rattle.std.specs.Global.{Vec}
+use Rattle.std.specs.Map.{remove_entry}
+use Rattle.std.specs.Prelude.{IsTrue}
+use Rattle.dfs_host.specs.Disk.{IsSettled}
+use Rattle.dfs_host.specs.Fault.{HasFaultCause, NoFault}
+use Rattle.dfs_host.specs.Host.{bytes_of}
+use Rattle.dfs_host.specs.declared.fault.Fault.{Fault}
+use Rattle.dfs_host.specs.declared.fault.Fault.TheVariants.{NoMemory, Disk, LogFull}
+use Rattle.dfs_host.proofs.Causes.{none_yet, none_by}
+use Rattle.dfs_log.specs.Logs.{LogState}
+use Rattle.dfs_registry.specs.declared.listed.Listed.{Listed}
+use Rattle.dfs_reply.specs.declared.Reply.TheVariants.{Error}
+use Rattle.dfs_reply.specs.declared.Word.TheVariants as word
+use Rattle.dfs_change.specs.declared.writer.Sealed.{Sealed}
+use Rattle.dfs_change.specs.Log.{log_changes}
+use Rattle.dfs_change.specs.Sealing.{entry_of}
+use Rattle.dfs_script.specs.declared.JobWord.{JobWord}
+use Rattle.dfs_session.specs.declared.job.Job.{Job as LiveJob}
+use Rattle.dfs_session.specs.Job.{Job}
+use Rattle.dfs_session.specs.Session.{Session, Step, of_job, of_live, publishes_anew, word_cmp}
+use Rattle.dfs_session.specs.Sound.{jobs_of}
+use Rattle.dfs_session.specs.Worked.{IsWorked}
+use Rattle.dfs_session.proofs.Changing.{no_job}
+use Rattle.dfs_session.proofs.Jobs.{Live, remove_set}
+use Rattle.dfs_session.proofs.Publishing.{fault_or, memory_not_full, memory_not_changed, was_live, log_stood, own_fit, own_few, in_range, still_unrefused, unsealed_worked, unlisted_worked, published_worked}
+use Rattle.dfs_session.proofs.Selecting.{no_fault}
+use Rattle.dfs_session.proofs.Working.{memory_cause, stays_in_memory}
+use Rattle.dfs_session.proofs.session.Session.publish_anew.Goals as goal
+
+pub returns-in_default : goal.returns-in_default
+returns-in_default g c =
+    let session = c.args.self.now in
+    let host = g.H.Host.state c.args.host.now in
+    let w = c.args.word.now in
+    stays_in_memory host session c.get_mut.follows.lender-at-none (λ s. of_job s w (λ j. publishes_anew s w j c.args.name)) (Error word.NoJob) c.text_of.result
+    (ap (λ (m : BTreeMap JobWord LiveJob). m.entries) c.get_mut.follows.holds-at-none) c.requires.sound
+    (λ s tells stands. ap (λ (o : Option Job). of_live o s (λ j. publishes_anew s w j c.args.name)) (no_job host session s w stands (sym c.in_default.ensures.value)))
+    c.text_of.ensures.text c.text_of.ensures.memory
+
+pub write_changes-requires-clause-live : goal.write_changes-requires-clause-live
+write_changes-requires-clause-live g c =
+    let host = g.H.Host.state c.args.host.now in
+    (was_live host host c.args.self.now c.args.word.now c.in-Some.job.now c.requires.sound (sym c.in-Some.ensures.value)).sound.live
+
+pub write_changes-requires-clause-stands : goal.write_changes-requires-clause-stands
+write_changes-requires-clause-stands g c =
+    let host = g.H.Host.state c.args.host.now in
+    log_stood host host c.args.self.now c.args.word.now c.in-Some.job.now c.requires.sound (sym c.in-Some.ensures.value)
+
+pub write_changes-requires-clause-fit : goal.write_changes-requires-clause-fit
+write_changes-requires-clause-fit g c =
+    let host = g.H.Host.state c.args.host.now in
+    own_fit host host c.args.self.now c.args.word.now c.in-Some.job.now c.requires.sound (sym c.in-Some.ensures.value)
+
+pub write_changes-requires-clause-few : goal.write_changes-requires-clause-few
+write_changes-requires-clause-few g c =
+    let host = g.H.Host.state c.args.host.now in
+    own_few host host c.args.self.now c.args.word.now c.in-Some.job.now c.requires.sound (sym c.in-Some.ensures.value)
+
+pub returns-in_err-sealed : goal.returns-in_err-sealed
+returns-in_err-sealed g c =
+    let session = c.args.self.now in
+    let w = c.args.word.now in
+    let before = g.H.Host.state c.args.host.now in
+    let mid = g.H.Host.state c.write_changes.new.host in
+    let job = c.in-Some.job.now in
+    let x : LiveJob = record job { log = c.write_changes.new.log } in
+    let jobs = c.get_mut.follows.lender x in
+    let fault = c.in_err-sealed.field-0.0 in
+    let wrote = c.write_changes.ensures in
+    let was = c.in_err-sealed.was in
+    let does : Session → Step = λ s. of_job s w (λ j. publishes_anew s w j c.args.name) in
+    let p = err_from_is_err_and c.from_residual.result c.from_residual.ensures.1 in
+    let same : c.from_residual.result ≡ Err fault = p.1 ∙ ap Err p.2 in
+    subst (λ (r : Result (Vec ℕ) Fault). IsWorked does before mid session (record session { jobs = jobs }) r) (sym same)
+    (unsealed_worked before mid session w job c.requires.sound (sym c.in-Some.ensures.value) wrote.only c.write_changes.new.log jobs (c.get_mut.follows.holds x).0 does fault
+    (subst (λ (r : Result Sealed Fault). HasFaultCause before mid r) was wrote.cause)
+    (λ is. (wrote.full (was ∙ ap Err is), ap (λ (l : LogState). l.refused) (wrote.refused (was ∙ ap Err is)).1))
+    (λ other. wrote.none_refused (λ is. other (ap fault_or (sym was ∙ is))))
+    (λ file at is. wrote.never_changed file at (was ∙ ap Err is)))
+
+pub returns-in_err-reply : goal.returns-in_err-reply
+returns-in_err-reply g c =
+    let session = c.args.self.now in
+    let w = c.args.word.now in
+    let before = g.H.Host.state c.args.host.now in
+    let mid = g.H.Host.state c.write_changes.new.host in
+    let job = c.in-Some.job.now in
+    let x : LiveJob = record job { log = c.write_changes.new.log } in
+    let jobs = c.get_mut.follows.lender x in
+    let wrote = c.write_changes.ensures in
+    let ok = no_fault c.write_changes.result c.in_ok-sealed.sealed in
+    let does : Session → Step = λ s. of_job s w (λ j. publishes_anew s w j c.args.name) in
+    let p = err_from_is_err_and c.from_residual-in_err-reply.result c.from_residual-in_err-reply.ensures.1 in
+    let same : c.from_residual-in_err-reply.result ≡ Err NoMemory = p.1 ∙ ap Err (p.2 ∙ c.in_err-reply.ensures.memory) in
+    let none : NoFault before mid = none_by (none_yet before) wrote.cause (ok Disk c.in_ok-sealed.was) in
+    subst (λ (r : Result (Vec ℕ) Fault). IsWorked does before mid session (record session { jobs = jobs }) r) (sym same)
+    (unsealed_worked before mid session w job c.requires.sound (sym c.in-Some.ensures.value) wrote.only c.write_changes.new.log jobs (c.get_mut.follows.holds x).0 {T = Vec ℕ} does NoMemory
+    (memory_cause (Err NoMemory) none refl) (λ is. absurd (memory_not_full is)) (λ other. wrote.none_refused (ok LogFull c.in_ok-sealed.was)) memory_not_changed)
+
+pub list-requires-clause-job_apart : goal.list-requires-clause-job_apart
+list-requires-clause-job_apart g c =
+    let host = g.H.Host.state c.args.host.now in
+    (was_live host host c.args.self.now c.args.word.now c.in-Some.job.now c.requires.sound (sym c.in-Some.ensures.value)).unlisted
+
+pub list-requires-clause-job_range : goal.list-requires-clause-job_range
+list-requires-clause-job_range g c =
+    let host = g.H.Host.state c.args.host.now in
+    in_range host host c.args.self.now c.args.word.now c.in-Some.job.now c.requires.sound (sym c.in-Some.ensures.value)
+
+pub returns-in_err-list : goal.returns-in_err-list
+returns-in_err-list g c =
+    let session = c.args.self.now in
+    let w = c.args.word.now in
+    let before = g.H.Host.state c.args.host.now in
+    let mid = g.H.Host.state c.write_changes.new.host in
+    let after = g.H.Host.state c.list.new.host in
+    let job = c.in-Some.job.now in
+    let x : LiveJob = record job { log = c.write_changes.new.log } in
+    let jobs = c.get_mut.follows.lender x in
+    let new = record session { registry = c.list.new.registry; jobs = jobs } in
+    let found = sym c.in-Some.ensures.value in
+    let fault = c.in_err-list.field-0.0 in
+    let wrote = c.write_changes.ensures in
+    let listing = c.list.ensures in
+    let was = c.in_err-list.was in
+    let ok = no_fault c.write_changes.result c.in_ok-sealed.sealed in
+    let does : Session → Step = λ s. of_job s w (λ j. publishes_anew s w j c.args.name) in
+    let sealed = c.in_ok-sealed.sealed in
+    let listed : Listed = record { name = c.args.name; job = job.ids.job; at = sealed.at; len = sealed.len; count = sealed.count } in
+    let file : job.log.file ≡ job.ids.job = (was_live before mid session w job c.requires.sound found).sound.file in
+    let changes : IsTrue before.tells → log_changes (bytes_of mid job.ids.job) listed ≡ Some job.space.own = λ tells. subst (λ (n : ℕ). log_changes (bytes_of mid n) (entry_of c.args.name n sealed) ≡ Some job.space.own) file (c.in_ok-sealed.ensures.log tells c.args.name) in
+    let settled : IsTrue before.tells → IsSettled (mid.disk.files job.ids.job) = λ tells. subst (λ (n : ℕ). IsSettled (mid.disk.files n)) file (c.in_ok-sealed.ensures.settled tells) in
+    let p = err_from_is_err_and c.from_residual-in_err-list.result c.from_residual-in_err-list.ensures.1 in
+    let same : c.from_residual-in_err-list.result ≡ Err fault = p.1 ∙ ap Err p.2 in
+    subst (λ (r : Result (Vec ℕ) Fault). IsWorked does before after session new r) (sym same)
+    (unlisted_worked before mid after session w job c.requires.sound found wrote.only listing.only listed refl listing.images changes settled fault new (none_by (none_yet before) wrote.cause (ok Disk c.in_ok-sealed.was))
+    (subst (λ (r : Result (Unit {0}) Fault). HasFaultCause mid after r) was listing.cause)
+    (λ is. listing.memory (was ∙ ap Err is)) (λ is. listing.never_full (was ∙ ap Err is)) (λ file at is. listing.never_changed file at (was ∙ ap Err is))
+    (still_unrefused before mid session w job c.requires.sound found wrote.only c.write_changes.new.log jobs (c.get_mut.follows.holds x).0 (wrote.none_refused (ok LogFull c.in_ok-sealed.was))))
+
+pub returns : goal.returns
+returns g c =
+    let session = c.args.self.now in
+    let w = c.args.word.now in
+    let before = g.H.Host.state c.args.host.now in
+    let mid = g.H.Host.state c.write_changes.new.host in
+    let after = g.H.Host.state c.list.new.host in
+    let job = c.in-Some.job.now in
+    let x : LiveJob = record job { log = c.write_changes.new.log } in
+    let found = sym c.in-Some.ensures.value in
+    let sealed = c.in_ok-sealed.sealed in
+    let wrote = c.write_changes.ensures in
+    let listing = c.list.ensures in
+    let listed : Listed = record { name = c.args.name; job = job.ids.job; at = sealed.at; len = sealed.len; count = sealed.count } in
+    let file : job.log.file ≡ job.ids.job = (was_live before mid session w job c.requires.sound found).sound.file in
+    published_worked before mid after session w job c.requires.sound found wrote.only listing.only listed refl c.list.new.registry c.remove.new.self c.in_ok-list.ensures.listed
+    (c.remove.ensures.entries ∙ ap (λ (es : Live). remove_entry (is_at (word_cmp w)) es) (c.get_mut.follows.holds x).0 ∙ remove_set (is_at (word_cmp w)) (jobs_of session) x)
+    c.in_ok-list.ensures.live c.in_ok-list.ensures.stands listing.images c.in_ok-reply.reply sealed.count
+    (none_by (none_by (none_yet before) wrote.cause (no_fault c.write_changes.result sealed Disk c.in_ok-sealed.was)) listing.cause (no_fault c.list.result tt Disk c.in_ok-list.was))
+    c.in_ok-reply.ensures.text c.in_ok-sealed.ensures.count
+    (λ tells. subst (λ (n : ℕ). log_changes (bytes_of mid n) (entry_of c.args.name n sealed) ≡ Some job.space.own) file (c.in_ok-sealed.ensures.log tells c.args.name))
+    (λ tells. subst (λ (n : ℕ). IsSettled (mid.disk.files n)) file (c.in_ok-sealed.ensures.settled tells))

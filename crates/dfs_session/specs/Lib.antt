@@ -1,0 +1,10 @@
+pub mod Job
+pub mod Session
+pub mod Run
+pub mod Files
+pub mod Own
+pub mod Sound
+pub mod Stands
+pub mod Worked
+pub mod Selected
+pub mod Images

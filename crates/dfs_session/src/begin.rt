@@ -1,0 +1,99 @@
+//! Begins: what a job selects, and the job over it.
+
+use crate::selection::{Selection, select};
+use crate::session::text_of;
+use crate::{Job, Session};
+use dfs_host::{Fault, Host};
+use dfs_reply::{Reply, Word};
+use dfs_script::{JobWord, Names};
+use dfs_space::PlainSpace;
+
+// How many jobs may live at once, and the last number of a job.
+const MOST_LIVE: usize = 64;
+
+const LAST_JOB: u32 = 4_294_967_294;
+
+impl Session {
+    ghost use Rattle.std.specs.Prelude.{◌≡◌, ◌<◌, ◌+◌, nat_le, ◌||◌, List, [], length, None};
+    ghost use Rattle.std.specs.List.{list_all};
+    ghost use Rattle.dfs_host.specs.Host.{Told};
+    ghost use Rattle.dfs_record.specs.Delta.{Delta};
+    ghost use Rattle.dfs_record.specs.Namespace.{replay};
+    ghost use Rattle.dfs_ops.specs.Within.{IsWithin};
+    ghost use Rattle.dfs_session.specs.Job.{first_ids};
+    ghost use Rattle.dfs_session.specs.Selected.{is_listed};
+    ghost use Rattle.dfs_session.specs.Session.{begins, begins_over, live_job};
+    ghost use Rattle.dfs_session.specs.Sound.{IsSound, listed_in, jobs_of, live_in};
+    ghost use Rattle.dfs_session.specs.Worked.{IsWorked};
+
+    /// Begins a job over the publications of the names.
+    pub(crate) fn begin<H: Host>(
+        &mut self,
+        host: &mut H,
+        word: JobWord,
+        names: &Names,
+    ) -> Result<Vec<u8>, Fault>
+        requires { IsSound (H.state host.old) self.old }
+        ensures { IsWorked (λ s. begins s word names.now) (H.state host.old) (H.state host.new) self.old self.new result }
+    {
+        if self.jobs.contains_key(&word) {
+            return text_of(self.alloc, &Reply::Error(Word::LiveJob));
+        }
+        if self.is_full() {
+            return text_of(self.alloc, &Reply::Error(Word::Full));
+        }
+        if !self.lists(names) {
+            return text_of(self.alloc, &Reply::Error(Word::NoSnap));
+        }
+        match select(self.alloc, host, &self.registry, names)? {
+            Selection::Entries(entries) => self.begin_over(host, word, entries),
+            Selection::Damaged(name) => text_of(self.alloc, &Reply::Damaged(name)),
+        }
+    }
+
+    // Whether no job can be begun.
+    fn is_full(&self) -> bool
+        ensures { result ≡ (nat_le 64 (length (jobs_of self.now)) || nat_le 4294967294 self.now.greatest) }
+    {
+        self.jobs.len() >= MOST_LIVE || self.greatest >= LAST_JOB
+    }
+
+    // Whether each of the names is that of a publication.
+    fn lists(&self, names: &Names) -> bool
+        ensures { result ≡ list_all (is_listed (listed_in self.now)) names.now }
+    {
+        for index in 0..names.len() {
+            if self.registry.find(names.get(index)).is_none() {
+                return false;
+            }
+        }
+        true
+    }
+
+    // Begins a job over the entries that it selected.
+    fn begin_over<H: Host>(
+        &mut self,
+        host: &mut H,
+        word: JobWord,
+        entries: PlainSpace,
+    ) -> Result<Vec<u8>, Fault>
+        requires sound { IsSound (H.state host.old) self.old }
+        requires within { IsWithin (first_ids (self.old.greatest + 1)) entries }
+        requires last { self.old.greatest < 4294967294 }
+        requires absent { live_in self.old word ≡ None }
+
+        ensures { (basis : List Delta) → Told (H.state host.old) (entries ≡ replay basis [])
+            → IsWorked (λ s. begins_over s word basis) (H.state host.old) (H.state host.new) self.old self.new result }
+    {
+        let number = self.greatest + 1;
+        let reply = text_of(self.alloc, &Reply::Job(number))?;
+        let job = Job::begin(self.alloc, host, number, entries, self.settings.log_bytes)?;
+        match self.jobs.insert(word, job) {
+            Ok(_) => {
+                self.greatest = number;
+                Ok(reply)
+            }
+            Err(_) => Err(Fault::NoMemory),
+        }
+    }
+}

@@ -1,0 +1,92 @@
+//! The commands of a live job, and the list of snapshots.
+
+ghost use Rattle.std.specs.Prelude.{◌≡◌, map, IfOk, IfErr};
+ghost use Rattle.dfs_session.specs.Session.{told as told_by};
+
+use crate::Session;
+use crate::session::text_of;
+use dfs_host::Fault;
+use dfs_ops::OpReply;
+use dfs_path::Op;
+use dfs_registry::Registry;
+use dfs_reply::{Reply, SnapList, Word};
+use dfs_script::JobWord;
+use std::alloc::Global;
+
+// The reply that tells an answer.
+fn told(answer: OpReply) -> Reply
+    ensures { result ≡ told_by answer }
+{
+    match answer {
+        OpReply::Done => Reply::Ok,
+        OpReply::Entry(entry) => Reply::Stat(entry),
+        OpReply::Listing(listing) => Reply::Listing(listing),
+        OpReply::Root => Reply::Error(Word::Root),
+        OpReply::NoEnt => Reply::Error(Word::NoEnt),
+        OpReply::NotDir => Reply::Error(Word::NotDir),
+        OpReply::IsDir => Reply::Error(Word::IsDir),
+        OpReply::Exists => Reply::Error(Word::Exists),
+        OpReply::NotEmpty => Reply::Error(Word::NotEmpty),
+        OpReply::Inside => Reply::Error(Word::Inside),
+        OpReply::Full => Reply::Error(Word::Full),
+    }
+}
+
+// The names and jobs of the publications, in the registry's order.
+fn snapshots(alloc: Global, registry: &Registry) -> Result<SnapList, Fault>
+    ensures list { IfOk result (λ list. list ≡ map (λ l. (l.name, l.job)) registry.now.entries) }
+    ensures memory { IfErr result (λ fault. fault ≡ Fault.NoMemory) }
+{
+    let mut list = SnapList::new(alloc);
+    for index in 0..registry.count() {
+        let listed = registry.entry(index);
+        let Ok(name) = listed.name.copy(alloc) else {
+            return Err(Fault::NoMemory);
+        };
+        if list.push((name, listed.job)).is_err() {
+            return Err(Fault::NoMemory);
+        }
+    }
+    Ok(list)
+}
+
+impl Session {
+    ghost use Rattle.std.specs.Prelude.{◌≡◌};
+    ghost use Rattle.dfs_path.specs.Op.{IsOp};
+    ghost use Rattle.dfs_session.specs.Session.{tells_snapshots, operates_for, ends};
+    ghost use Rattle.dfs_session.specs.Sound.{IsSoundInMemory};
+    ghost use Rattle.dfs_session.specs.Worked.{IsWorkedInMemory};
+
+    /// Tells the names and jobs of the publications.
+    pub(crate) fn tell_snapshots(&self) -> Result<Vec<u8>, Fault>
+        requires { IsSoundInMemory self.now }
+        ensures { IsWorkedInMemory tells_snapshots self.now self.now result }
+    {
+        let list = snapshots(self.alloc, &self.registry)?;
+        text_of(self.alloc, &Reply::Snapshots(list))
+    }
+
+    /// Applies an operation to the namespace of a live job.
+    pub(crate) fn operate(&mut self, word: &JobWord, op: &Op) -> Result<Vec<u8>, Fault>
+        requires sound { IsSoundInMemory self.old }
+        requires op { IsOp op.now }
+        ensures { IsWorkedInMemory (λ s. operates_for s word.now op.now) self.old self.new result }
+    {
+        let Some(job) = self.jobs.get_mut(word) else {
+            return text_of(self.alloc, &Reply::Error(Word::NoJob));
+        };
+        let answer = job.operate(self.alloc, op)?;
+        text_of(self.alloc, &told(answer))
+    }
+
+    /// Ends a live job, which publishes nothing.
+    pub(crate) fn end(&mut self, word: &JobWord) -> Result<Vec<u8>, Fault>
+        requires { IsSoundInMemory self.old }
+        ensures { IsWorkedInMemory (λ s. ends s word.now) self.old self.new result }
+    {
+        if self.jobs.remove(word).is_none() {
+            return text_of(self.alloc, &Reply::Error(Word::NoJob));
+        }
+        text_of(self.alloc, &Reply::Ok)
+    }
+}

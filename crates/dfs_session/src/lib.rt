@@ -1,0 +1,21 @@
+//! The session of a script: the registry, the live jobs, and what each line does to them.
+//!
+//! `Session::open` reads the registry of a host, and `Session::step` works one line and answers its reply. Both speak of the plain
+//! session of specs/Session, in which a publication is a name with a change set and a job is a list of records over the change
+//! sets that it selected. specs/Files says what the files of a host stand for, specs/Stands when a session in memory stands for a
+//! plain one, specs/Run what a whole script writes.
+#![tactic(auto)]
+
+mod begin;
+mod commands;
+mod job;
+mod publish;
+mod selection;
+mod session;
+mod settings;
+mod space;
+
+pub use job::Job;
+pub use session::Session;
+pub use settings::Settings;
+pub use space::JobSpace;

@@ -1,0 +1,164 @@
+//! The session: opened over a host's registry, and worked line by line.
+
+ghost use Rattle.std.specs.Prelude.{◌≡◌, ◌≤◌, IfOk, IfErr, OnOk};
+ghost use Rattle.dfs_registry.specs.Body.{greatest_job};
+ghost use Rattle.dfs_reply.specs.Text.{text};
+
+use crate::{Job, Settings};
+use dfs_host::{Fault, Host};
+use dfs_registry::{RegFault, Registry};
+use dfs_reply::{Reply, Word, print};
+use dfs_script::{JobWord, Line, LineFault, read_line};
+use std::alloc::Global;
+use std::collections::BTreeMap;
+
+/// The registry and the live jobs of a script. After a fault it is spent.
+#[derive(Drop)]
+pub struct Session {
+    pub alloc: Global,
+    pub registry: Registry,
+    /// What jobs are given that begin.
+    pub settings: Settings,
+    /// The greatest number of a job that is listed or was begun.
+    pub greatest: u32,
+    /// The live jobs by their words, at most 64.
+    pub jobs: BTreeMap<JobWord, Job>,
+    pub spent: bool,
+}
+
+// The greatest listed job, and 0 where there is none.
+fn greatest_listed(registry: &Registry) -> u32
+    ensures greatest { result ≡ greatest_job registry.now.entries }
+    ensures last { result ≤ 4294967294 }
+{
+    match registry.next_job() {
+        Some(next) => next - 1,
+        None => 4_294_967_294,
+    }
+}
+
+// The text of a reply.
+pub fn text_of(alloc: Global, reply: &Reply) -> Result<Vec<u8>, Fault>
+    ensures text { IfOk result (λ bytes. bytes.items ≡ text reply.now) }
+    ensures memory { IfErr result (λ fault. fault ≡ Fault.NoMemory) }
+{
+    let mut bytes = Vec::new(alloc);
+    match print(reply, &mut bytes) {
+        Ok(()) => Ok(bytes),
+        Err(_) => Err(Fault::NoMemory),
+    }
+}
+
+impl Session {
+    ghost use Rattle.std.specs.Prelude.{◌≡◌, ◌↔◌, ◌<◌, ℕ, List, Some, IfOk, IfErr, OnOk, OnErr, IsTrue, IsErrOf};
+    ghost use Rattle.dfs_host.specs.Disk.{IsSettled};
+    ghost use Rattle.dfs_host.specs.Fault.{HasFaultCause};
+    ghost use Rattle.dfs_host.specs.Host.{HostState, Told, LeavesOnly, OnlyReads, SaysNothing, bytes_of};
+    ghost use Rattle.dfs_registry.specs.Opening.{HasRegCause};
+    ghost use Rattle.dfs_registry.specs.Reading.{registry as reading};
+    ghost use Rattle.dfs_reply.specs.Text.{text};
+    ghost use Rattle.dfs_script.specs.Valid.{IsLine};
+    ghost use Rattle.dfs_session.specs.Files.{value_on};
+    ghost use Rattle.dfs_session.specs.Images.{Holds, HoldsEither, HoldsNow};
+    ghost use Rattle.dfs_session.specs.Session.{Session as PlainSession, Registry as Publications, opened_with, after_command, step as step_of};
+    ghost use Rattle.dfs_session.specs.Sound.{AreSettings, IsSound};
+    ghost use Rattle.dfs_session.specs.Stands.{Stands, LeavesValue};
+    ghost use Rattle.dfs_session.specs.Worked.{OpensAs, IsWorked, has_refused, roomy};
+
+    /// Opens the registry of a host. Jobs that begin are given the settings.
+    pub fn open<H: Host>(
+        alloc: Global,
+        host: &mut H,
+        settings: Settings,
+    ) -> Result<Session, RegFault>
+        requires { AreSettings settings }
+
+        // The answer is what the registry's file stood for, but for want of memory and a failed device call.
+        ensures answer { Told (H.state host.old) (OpensAs (reading (bytes_of (H.state host.old) 0)) result) }
+        ensures sound { IfOk result (IsSound (H.state host.new)) }
+        ensures settings { IfOk result (λ session. session.settings ≡ settings) }
+        ensures stands { (registry : Publications) → Told (H.state host.old) (((file : ℕ) → IsSettled ((H.state host.old).disk.files file)) → value_on (H.state host.old) ≡ Some registry
+            → IfOk result (λ session. Stands (H.state host.new) session (opened_with settings registry))) }
+        // What the files stand for stays, whatever the answer.
+        ensures value { Told (H.state host.old) (IsSettled ((H.state host.old).disk.files 0) → value_on (H.state host.new) ≡ value_on (H.state host.old)) }
+        // Each image since the start has the registry, also where a device call failed.
+        ensures images { (registry : Publications) → Told (H.state host.old) (((file : ℕ) → IsSettled ((H.state host.old).disk.files file)) → value_on (H.state host.old) ≡ Some registry
+            → LeavesOnly (Holds registry) (H.state host.old) (H.state host.new)) }
+        ensures silent { Told (H.state host.old) (IsSettled ((H.state host.old).disk.files 0) → SaysNothing (H.state host.old) (H.state host.new)) }
+        ensures refused { IsErrOf result RegFault.NotRegistry → OnlyReads (H.state host.old) (H.state host.new) }
+        ensures broken { (place : ℕ) → IsErrOf result (RegFault.Damaged place) → OnlyReads (H.state host.old) (H.state host.new) }
+        ensures cause { HasRegCause (H.state host.old) (H.state host.new) result }
+    {
+        let registry = Registry::open(alloc, host)?;
+        let greatest = greatest_listed(&registry);
+        Ok(Session {
+            alloc,
+            registry,
+            settings,
+            greatest,
+            jobs: BTreeMap::new(alloc),
+            spent: false,
+        })
+    }
+
+    /// Works one line of a script, without its LF, and answers its reply: empty for none. After a fault the session is spent.
+    pub fn step<H: Host>(&mut self, host: &mut H, line: &[u8]) -> Result<Vec<u8>, Fault>
+        requires { IsSound (H.state host.old) self.old }
+
+        ensures sound { OnOk result (IsSound (H.state host.new) self.new) }
+        ensures settings { OnOk result (self.new.settings ≡ self.old.settings) }
+        ensures reply { (s : PlainSession) → Told (H.state host.old) (Stands (H.state host.old) self.old s → IfOk result (λ reply. reply.items ≡ text (step_of s line.now).reply)) }
+        ensures stands { (s : PlainSession) → Told (H.state host.old) (Stands (H.state host.old) self.old s → OnOk result (Stands (H.state host.new) self.new (step_of s line.now).session)) }
+        ensures value { (s : PlainSession) → Told (H.state host.old) (Stands (H.state host.old) self.old s
+            → LeavesValue result s.registry (step_of s line.now).session.registry (value_on (H.state host.new))) }
+        // Each image since the start has the registry before the line or after it, whatever the answer and also where a device call
+        // failed, and once the line was answered every image has the one after it.
+        ensures images { (s : PlainSession) → Told (H.state host.old) (Stands (H.state host.old) self.old s
+            → LeavesOnly (HoldsEither s.registry (step_of s line.now).session.registry) (H.state host.old) (H.state host.new)) }
+        ensures durable { (s : PlainSession) → Told (H.state host.old) (Stands (H.state host.old) self.old s → OnOk result (HoldsNow (step_of s line.now).session.registry (H.state host.new))) }
+        ensures silent { SaysNothing (H.state host.old) (H.state host.new) }
+        ensures cause { HasFaultCause (H.state host.old) (H.state host.new) result }
+        // `LogFull` exactly where the log of a job refused a piece in this line. A log that may have some 565 million bytes never does.
+        ensures full { IsErrOf result Fault.LogFull ↔ IsTrue (has_refused self.new) }
+        ensures never_full { IsErrOf result Fault.LogFull → self.old.settings.log_bytes < roomy }
+        ensures never_changed { (file at : ℕ) → IsErrOf result (Fault.Changed file at) → ⊥ }
+        ensures spent { OnErr result (IsTrue self.new.spent) }
+    {
+        match self.work(host, line) {
+            Ok(reply) => Ok(reply),
+            Err(fault) => {
+                self.spent = true;
+                Err(fault)
+            }
+        }
+    }
+
+    // Works a line.
+    fn work<H: Host>(&mut self, host: &mut H, line: &[u8]) -> Result<Vec<u8>, Fault>
+        requires { IsSound (H.state host.old) self.old }
+        ensures { IsWorked (λ s. step_of s line.now) (H.state host.old) (H.state host.new) self.old self.new result }
+    {
+        match read_line(self.alloc, line) {
+            Ok(line) => self.obey(host, line),
+            Err(LineFault::Long) => text_of(self.alloc, &Reply::Error(Word::Long)),
+            Err(LineFault::Syntax) => text_of(self.alloc, &Reply::Error(Word::Syntax)),
+            Err(LineFault::NoMemory) => Err(Fault::NoMemory),
+        }
+    }
+
+    // Does what a line says.
+    fn obey<H: Host>(&mut self, host: &mut H, line: Line) -> Result<Vec<u8>, Fault>
+        requires sound { IsSound (H.state host.old) self.old }
+        requires line { IsLine line }
+        ensures { IsWorked (λ s. after_command s line) (H.state host.old) (H.state host.new) self.old self.new result }
+    {
+        match line {
+            Line::Nothing => text_of(self.alloc, &Reply::Nothing),
+            Line::Snapshots => self.tell_snapshots(),
+            Line::Begin { job, names } => self.begin(host, job, &names),
+            Line::Space { job, op } => self.operate(&job, &op),
+            Line::Publish { job, name } => self.publish(host, &job, name),
+            Line::End { job } => self.end(&job),
+        }
+    }
+}

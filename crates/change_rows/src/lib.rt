@@ -2,6 +2,7 @@
 #![tactic(auto)]
 
 ghost use Rattle.std.specs.Prelude.{◌≡◌, ◌≤◌, IsFalse, IfOk, Some};
+ghost use Rattle.dfs_host.specs.Fault.{HasFaultCause};
 ghost use Rattle.dfs_host.specs.Host.{Told};
 ghost use Rattle.dfs_log.specs.Logs.{LogStands};
 ghost use Rattle.dfs_record.specs.KeyMap.{len};
@@ -26,7 +27,8 @@ pub fn write_and_read<H: Host>(
     requires stands { Told (H.state host.old) (LogStands (H.state host.old) log.old) }
     requires fit { AreFit log.old.file changes.now }
     requires few { len changes.now ≤ 1048576 }
-    ensures { Told (H.state host.old) (IfOk result (λ found. found ≡ Some changes.now)) }
+    ensures found { Told (H.state host.old) (IfOk result (λ found. found ≡ Some changes.now)) }
+    ensures cause { HasFaultCause (H.state host.old) (H.state host.new) result }
 {
     let sealed = write_changes(alloc, host, log, changes)?;
     let listed = Listed {

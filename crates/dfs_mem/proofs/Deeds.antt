@@ -46,9 +46,6 @@ module _ (start : List (ℕ × Vec ℕ Global)) (said : List ℕ) (deeds mid new
   pub after_one : disk_after new (start_disk start said) ≡ step kept.deed (disk_after deeds (start_disk start said))
   after_one = ap (λ (l : List Kept). disk_after l (start_disk start said)) longer ∙ disk_after-push deeds kept (start_disk start said)
 
-  pub before_one : disks_before new (start_disk start said) ≡ disks_before deeds (start_disk start said) ++ passed kept.deed (disk_after deeds (start_disk start said))
-  before_one = ap (λ (l : List Kept). disks_before l (start_disk start said)) longer ∙ disks_before-push deeds kept (start_disk start said)
-
   -- no number is above the last one
   pub numbered_one : (last : ℕ) → All (λ (k : Kept). k.call ≤ last) deeds → last ≤ kept.call → All (λ (k : Kept). k.call ≤ kept.call) new
   numbered_one last numbered later =
@@ -56,3 +53,6 @@ module _ (start : List (ℕ × Vec ℕ Global)) (said : List ℕ) (deeds mid new
       (All-append (λ (k : Kept). k.call ≤ kept.call) deeds (kept ∷ [])
       (All-weaker (λ (k : Kept). k.call ≤ last) (λ (k : Kept). k.call ≤ kept.call) (λ k le. omega (arith, le, later)) deeds numbered)
       (All-cons (λ (k : Kept). k.call ≤ kept.call) kept [] (omega arith) (All-nil (λ (k : Kept). k.call ≤ kept.call))))
+
+-- what one more deed does
+pub ruleset one_deed = (disk_after-push, disks_before-push)

@@ -1,6 +1,6 @@
 -- The files that are given at the start.
-use Rattle.std.proofs.Common.{◌≡◌, ℕ, ◌+◌, ◌<◌, suc, zero, Bool, true, false, not, cond, eqb, List, [], ◌∷◌, ◌++◌, length, take, get_or, drop, ◌&&◌, Vec, Option, Some, refl, sym, ◌∙◌, ap, arith}
-use Rattle.std.proofs.lemmas.List.{take_more, drop_more}
+use Rattle.std.proofs.Common.{◌≡◌, ℕ, ◌+◌, ◌<◌, suc, zero, Bool, true, false, not, cond, eqb, List, [], ◌∷◌, ◌++◌, length, take, get_or, Vec, Option, Some, refl, ◌∙◌, ap, arith}
+use Rattle.std.proofs.lemmas.List.{take_more}
 use Rattle.std.proofs.lemmas.Bool.{and_parts, and_from}
 use Rattle.std.proofs.lemmas.Bool.Decides.{nat_tests}
 use Rattle.std.specs.Option.{option_map_or}
@@ -45,23 +45,12 @@ bytes_in-take files i d n differ below =
     ap (λ (l : List (ℕ × Vec ℕ Global)). bytes_in l n) (take_more files i d below)
     ∙ bytes_in-push (take i files) (get_or files i d) n (is_missing-before files i d differ below)
 
-picked : {X : Type 0} (b : Bool) (f : X → List ℕ) (x : X) (o : Option X) → option_map_or f (cond b (Some x) o) [] ≡ cond b (f x) (option_map_or f o [])
-picked true f x o = refl
-picked false f x o = refl
+pub picked : {X Y : Type 0} (b : Bool) (f : X → Y) (x : X) (o : Option X) (d : Y) → option_map_or f (cond b (Some x) o) d ≡ cond b (f x) (option_map_or f o d)
+picked true f x o d = refl
+picked false f x o d = refl
 
 -- in a map with one file more
 pub bytes_at-put : (old new : HashMap ℕ (Vec ℕ Global) (BuildHasherDefault FoldHasher)) (k n : ℕ) (file : Vec ℕ Global) → get eqb new n ≡ cond (eqb k n) (Some file) (get eqb old n)
     → bytes_at new n ≡ cond (eqb k n) file.items (bytes_at old n)
 bytes_at-put old new k n file is =
-    ap (λ (o : Option (Vec ℕ Global)). option_map_or (λ (v : Vec ℕ Global). v.items) o []) is ∙ picked (eqb k n) (λ (v : Vec ℕ Global). v.items) file (get eqb old n)
-
--- what a search finds at place i, and what the rest of the list says
-pub bytes_in-drop : (files : List (ℕ × Vec ℕ Global)) (i n : ℕ) (one : ℕ × Vec ℕ Global) → i < length files → one ≡ get_or files i one
-    → bytes_in (drop i files) n ≡ cond (eqb one.0 n) one.1.items (bytes_in (drop (i + 1) files) n)
-bytes_in-drop files i n one below is =
-    ap (λ (l : List (ℕ × Vec ℕ Global)). bytes_in l n) (drop_more files i one below ∙ ap (λ (o : ℕ × Vec ℕ Global). o ∷ drop (i + 1) files) (sym is))
-
-pub is_missing-drop : (files : List (ℕ × Vec ℕ Global)) (i n : ℕ) (one : ℕ × Vec ℕ Global) → i < length files → one ≡ get_or files i one
-    → is_missing n (drop i files) ≡ (not (eqb one.0 n) && is_missing n (drop (i + 1) files))
-is_missing-drop files i n one below is =
-    ap (λ (l : List (ℕ × Vec ℕ Global)). is_missing n l) (drop_more files i one below ∙ ap (λ (o : ℕ × Vec ℕ Global). o ∷ drop (i + 1) files) (sym is))
+    ap (λ (o : Option (Vec ℕ Global)). option_map_or (λ (v : Vec ℕ Global). v.items) o []) is ∙ picked (eqb k n) (λ (v : Vec ℕ Global). v.items) file (get eqb old n) []

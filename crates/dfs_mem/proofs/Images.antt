@@ -1,9 +1,12 @@
 -- The images of a disk: each is possible, and all files are among them.
-use Rattle.std.proofs.Common.{◌≡◌, ◌≢◌, ◌⊎◌, inl, inr, ⊎_elim, ℕ, suc, zero, ◌+◌, ◌-◌, ◌<◌, ◌≤◌, Bool, true, false, not, cond, eqb, leb, List, [], ◌∷◌, ◌++◌, ◌&&◌, length, get_or, refl, sym, ◌∙◌, ap, subst, add-one, arith, Vec, length-append}
-use Rattle.std.proofs.Math.Bool.{and_assoc}
-use Rattle.std.proofs.lemmas.Bool.{and_parts, and_from, cases_lt, true≢false}
-use Rattle.std.proofs.lemmas.Bool.Decides.{eqb_tells}
+use Rattle.std.proofs.Common.{◌≡◌, ◌⊎◌, inl, inr, ⊎_elim, ℕ, suc, zero, ◌+◌, ◌-◌, ◌<◌, ◌≤◌, Bool, true, false, not, cond, eqb, leb, List, [], ◌∷◌, ◌++◌, length, get_or, map, refl, sym, ◌∙◌, ap, subst, add-one, arith, Vec, Option, Some, length-append}
+use Rattle.std.proofs.lemmas.Bool.{and_from, cases_lt}
+use Rattle.std.proofs.lemmas.Bool.Decides.{nat_tests}
 use Rattle.std.proofs.lemmas.List.{get_or_append_left, get_or-append_right}
+use Rattle.std.proofs.lemmas.Map.Keys.{IsDistinct-head, IsDistinct-tail}
+use Rattle.std.specs.List.{IsDistinct, AllByRecursion}
+use Rattle.std.specs.Map.{lookup}
+use Rattle.std.specs.Option.{option_map_or}
 use Rattle.std.specs.declared.alloc.Global.{Global}
 use Rattle.dfs_host.specs.Disk.{FileState, Disk, Image, MayLeave, IsImage, settled_file, written, cut_to, synced}
 use Rattle.dfs_host.specs.Host.{LeftBy}
@@ -14,11 +17,11 @@ use Rattle.dfs_mem.specs.declared.deed.Deed.{Deed}
 use Rattle.dfs_mem.specs.declared.deed.Deed.TheVariants.{Write, Cut, Sync, Say}
 use Rattle.dfs_mem.specs.declared.deed.Kept.{Kept}
 use Rattle.dfs_mem.specs.declared.disk.MemDisk.{MemDisk}
-use Rattle.dfs_mem.specs.Deeds.{step, passed, disk_after, disks_before, start_disk, tried}
+use Rattle.dfs_mem.specs.declared.track.Track.{Track}
+use Rattle.dfs_mem.specs.Deeds.{step, passed, disk_after, disks_before, deeds_until, start_disk, tried}
 use Rattle.dfs_mem.specs.Files.{bytes_in, is_missing, numbers_differ}
-use Rattle.dfs_mem.specs.Images.{deeds_until, disk_until, length_of, fill_at, left_at, values_of, image_of, image_in, AreImages}
-use Rattle.dfs_mem.specs.Track.{file_step, file_after}
-use Rattle.dfs_mem.proofs.Given.{bytes_in-push, turned}
+use Rattle.dfs_mem.specs.Images.{disk_until, length_of, fill_at, left_at, values_of, image_of}
+use Rattle.dfs_mem.specs.Track.{file_of, file_step, file_after}
 use Rattle.dfs_mem.proofs.Steps.{left_first, left_last, first_spoken}
 use Rattle.dfs_mem.proofs.Tracks.{disk_file}
 
@@ -99,99 +102,61 @@ left_at_moment moment (kept ∷ deeds) disk image is = at_first (left_at_moment 
 
 -- All files have an image.
 
-and_true : (b : Bool) → (b && true) ≡ b
-and_true true = refl
-and_true false = refl
+flip : (a b : ℕ) → eqb a b ≡ eqb b a
+flip a b = grind (arith, nat_tests)
 
-pub and_false : (b : Bool) → (b && false) ≡ false
-and_false true = refl
-and_false false = refl
+-- at the place of each track there is the file's image
+abbrev pub AreImages : Choice → List (ℕ × Track) → List (ℕ × Vec ℕ Global) → Type 0
+AreImages choice [] [] = Unit {0}
+AreImages choice [] (file ∷ files) = ⊥
+AreImages choice (entry ∷ entries) [] = ⊥
+AreImages choice (entry ∷ entries) (file ∷ files) = (file.0 ≡ entry.0) × (file.1.items ≡ image_of choice (file_of entry.1)) × AreImages choice entries files
 
-not_true : (b : Bool) → not b ≡ true → b ≡ false
-not_true true h = absurd (true≢false (sym h))
-not_true false h = refl
+pub AreImages-push : (choice : Choice) (entries : List (ℕ × Track)) (files : List (ℕ × Vec ℕ Global)) (entry : ℕ × Track) (file : ℕ × Vec ℕ Global)
+    → AreImages choice entries files → file.0 ≡ entry.0 → file.1.items ≡ image_of choice (file_of entry.1) → AreImages choice (entries ++ entry ∷ []) (files ++ file ∷ [])
+AreImages-push choice [] [] entry file are number bytes = (number, bytes, tt)
+AreImages-push choice [] (first ∷ files) entry file are number bytes = absurd are
+AreImages-push choice (first ∷ entries) [] entry file are number bytes = absurd are
+AreImages-push choice (first ∷ entries) (one ∷ files) entry file are number bytes = (are.0, are.1, AreImages-push choice entries files entry file are.2 number bytes)
 
-and_true_left : (a b : Bool) → b ≡ false → (a && not b) ≡ false → a ≡ false
-and_true_left true true h both = h
-and_true_left true false h both = both
-and_true_left false b h both = refl
-
-pub is_missing-push : (files : List (ℕ × Vec ℕ Global)) (file : ℕ × Vec ℕ Global) (n : ℕ) → is_missing n (files ++ file ∷ []) ≡ (is_missing n files && not (eqb file.0 n))
-is_missing-push [] file n = and_true (not (eqb file.0 n))
-is_missing-push (first ∷ files) file n =
-    ap (λ b. not (eqb first.0 n) && b) (is_missing-push files file n)
-    ∙ sym (and_assoc (not (eqb first.0 n)) (is_missing n files) (not (eqb file.0 n)))
-
-numbers_differ-push : (files : List (ℕ × Vec ℕ Global)) (file : ℕ × Vec ℕ Global) → numbers_differ files ≡ true → is_missing file.0 files ≡ true → numbers_differ (files ++ file ∷ []) ≡ true
-numbers_differ-push [] file differ none = refl
-numbers_differ-push (first ∷ files) file differ none =
-    let ones = and_parts _ _ differ in
-    let nones = and_parts _ _ none in
-    and_from _ _ (is_missing-push files file first.0 ∙ and_from _ _ ones.0 (turned first.0 file.0 nones.0)) (numbers_differ-push files file ones.1 nones.1)
-
-pub bytes_in-missing : (files : List (ℕ × Vec ℕ Global)) (n : ℕ) → is_missing n files ≡ true → bytes_in files n ≡ []
-bytes_in-missing [] n none = refl
-bytes_in-missing (file ∷ files) n none =
-    let parts = and_parts _ _ none in
-    ap (λ b. cond b file.1.items (bytes_in files n)) (not_true (eqb file.0 n) parts.0) ∙ bytes_in-missing files n parts.1
-
-pub AreImages-push : (mem : MemDisk) (choice : Choice) (files : List (ℕ × Vec ℕ Global)) (number : ℕ) (bytes : Vec ℕ Global)
-    → AreImages mem choice files → is_missing number files ≡ true → bytes.items ≡ image_in mem choice number → AreImages mem choice (files ++ (number, bytes) ∷ [])
-AreImages-push mem choice files number bytes are none is = record {
-  differ = numbers_differ-push files (number, bytes) are.differ none;
-  bytes = λ n there. bytes_in-push files (number, bytes) n none ∙ which n there (eqb_tells number n);
-}
+no_bytes : (choice : Choice) → image_of choice (settled_file []) ≡ []
+no_bytes choice = nothing choice.length
   where
-    which : (n : ℕ) → is_missing n (files ++ (number, bytes) ∷ []) ≡ false → ((eqb number n ≡ true) × (number ≡ n)) ⊎ ((eqb number n ≡ false) × (number ≢ n))
-        → cond (eqb number n) bytes.items (bytes_in files n) ≡ image_in mem choice n
-    which n there (inl hit) = ap (λ b. cond b bytes.items (bytes_in files n)) hit.0 ∙ is ∙ ap (λ k. image_in mem choice k) hit.1
-    which n there (inr miss) =
-        ap (λ b. cond b bytes.items (bytes_in files n)) miss.0
-        ∙ are.bytes n (and_true_left (is_missing n files) (eqb number n) miss.0 (sym (is_missing-push files (number, bytes) n) ∙ there))
+    nothing : (length : Length) → values_of (left_at choice.fill (settled_file [])) (length_of length (settled_file [])) ≡ []
+    nothing Least = refl
+    nothing Greatest = refl
 
-pub no_images : (mem : MemDisk) (choice : Choice) → AreImages mem choice []
-no_images mem choice = record { differ = refl; bytes = λ n there. absurd (true≢false there) }
+-- an image that stands in front, or one behind it
+in_front : (choice : Choice) (b : Bool) (track : Track) (other : Option Track)
+    → cond b (image_of choice (file_of track)) (image_of choice (option_map_or file_of other (settled_file []))) ≡ image_of choice (option_map_or file_of (cond b (Some track) other) (settled_file []))
+in_front choice true track other = refl
+in_front choice false track other = refl
 
--- a file that is there is not another one that is missing
-pub another : (files : List (ℕ × Vec ℕ Global)) (number n : ℕ) → is_missing number files ≡ false → is_missing n files ≡ true → n ≢ number
-another files number n there none is = true≢false (sym none ∙ ap (λ k. is_missing k files) is ∙ there)
+pub images_bytes : (choice : Choice) (entries : List (ℕ × Track)) (files : List (ℕ × Vec ℕ Global)) (n : ℕ) → AreImages choice entries files
+    → bytes_in files n ≡ image_of choice (option_map_or file_of (lookup (eqb n) entries) (settled_file []))
+images_bytes choice [] [] n are = sym (no_bytes choice)
+images_bytes choice [] (file ∷ files) n are = absurd are
+images_bytes choice (entry ∷ entries) [] n are = absurd are
+images_bytes choice (entry ∷ entries) (file ∷ files) n are =
+    ap (λ b. cond b file.1.items (bytes_in files n)) (ap (λ k. eqb k n) are.0 ∙ flip entry.0 n)
+    ∙ ap (λ (l : List ℕ). cond (eqb n entry.0) l (bytes_in files n)) are.1
+    ∙ ap (λ (l : List ℕ). cond (eqb n entry.0) (image_of choice (file_of entry.1)) l) (images_bytes choice entries files n are.2)
+    ∙ in_front choice (eqb n entry.0) entry.1 (lookup (eqb n) entries)
 
--- none of these deeds is on file n
-abbrev pub Skips : ℕ → List Kept → Type 0
-Skips n [] = Unit {0}
-Skips n (kept ∷ deeds) = ((file : FileState) → file_step n kept.deed file ≡ file) × Skips n deeds
+images_missing : (choice : Choice) (entries : List (ℕ × Track)) (files : List (ℕ × Vec ℕ Global)) (n : ℕ) → AreImages choice entries files
+    → AllByRecursion (λ k. eqb n k ≡ false) (map (λ (e : ℕ × Track). e.0) entries) → is_missing n files ≡ true
+images_missing choice [] [] n are apart = refl
+images_missing choice [] (file ∷ files) n are apart = absurd are
+images_missing choice (entry ∷ entries) [] n are apart = absurd are
+images_missing choice (entry ∷ entries) (file ∷ files) n are apart =
+    and_from _ _ (ap not (ap (λ k. eqb k n) are.0 ∙ flip entry.0 n ∙ apart.0)) (images_missing choice entries files n are.2 apart.1)
 
-pub Skips-push : (n : ℕ) (deeds : List Kept) (kept : Kept) → Skips n deeds → ((file : FileState) → file_step n kept.deed file ≡ file) → Skips n (deeds ++ kept ∷ [])
-Skips-push n [] kept skips other = (other, tt)
-Skips-push n (first ∷ deeds) kept skips other = (skips.0, Skips-push n deeds kept skips.1 other)
-
-skipped : (n moment : ℕ) (deeds : List Kept) → Skips n deeds → (file : FileState) → file_after n (deeds_until moment deeds) file ≡ file
-skipped n moment [] skips file = refl
-skipped n moment (kept ∷ deeds) skips file = at_first (skipped n moment deeds skips.1 file) (leb kept.call moment)
-  where
-    at_first : file_after n (deeds_until moment deeds) file ≡ file → (b : Bool) → file_after n (cond b (kept ∷ deeds_until moment deeds) []) file ≡ file
-    at_first later true = ap (λ (f : FileState). file_after n (deeds_until moment deeds) f) (skips.0 file) ∙ later
-    at_first later false = refl
-
-nothing_left : (length : Length) (f : ℕ → ℕ) → values_of f (length_of length (settled_file [])) ≡ []
-nothing_left Least f = refl
-nothing_left Greatest f = refl
-
--- a file that was not there at the start and has no deed has an image without bytes
-pub no_bytes : (mem : MemDisk) (choice : Choice) (n : ℕ) → is_missing n mem.start.items ≡ true → Skips n mem.deeds.items → image_in mem choice n ≡ []
-no_bytes mem choice n none skips =
-    ap (λ (file : FileState). image_of choice file)
-    (disk_file n (deeds_until choice.moment mem.deeds.items) (start_disk mem.start.items mem.start_said.items)
-    ∙ skipped n choice.moment mem.deeds.items skips (settled_file (bytes_in mem.start.items n))
-    ∙ ap settled_file (bytes_in-missing mem.start.items n none))
-    ∙ nothing_left choice.length (left_at choice.fill (settled_file []))
-
--- the list has an image of each file
-pub all_images : (mem : MemDisk) (choice : Choice) (files : List (ℕ × Vec ℕ Global)) → AreImages mem choice files
-    → ((n : ℕ) → is_missing n files ≡ true → is_missing n mem.start.items ≡ true) → ((n : ℕ) → is_missing n files ≡ true → Skips n mem.deeds.items)
-    → (n : ℕ) → bytes_in files n ≡ image_in mem choice n
-all_images mem choice files are start skips n = either (is_missing n files) refl
-  where
-    either : (b : Bool) → is_missing n files ≡ b → bytes_in files n ≡ image_in mem choice n
-    either true none = bytes_in-missing files n none ∙ sym (no_bytes mem choice n (start n none) (skips n none))
-    either false there = are.bytes n there
+pub images_differ : (choice : Choice) (entries : List (ℕ × Track)) (files : List (ℕ × Vec ℕ Global)) → AreImages choice entries files
+    → IsDistinct eqb (map (λ (e : ℕ × Track). e.0) entries) → numbers_differ files ≡ true
+images_differ choice [] [] are distinct = refl
+images_differ choice [] (file ∷ files) are distinct = absurd are
+images_differ choice (entry ∷ entries) [] are distinct = absurd are
+images_differ choice (entry ∷ entries) (file ∷ files) are distinct =
+    let keys = map (λ (e : ℕ × Track). e.0) entries in
+    and_from _ _ (ap (λ k. is_missing k files) are.0 ∙ images_missing choice entries files entry.0 are.2 (IsDistinct-head eqb entry.0 keys distinct))
+    (images_differ choice entries files are.2 (IsDistinct-tail eqb entry.0 keys distinct))

@@ -1,16 +1,22 @@
 -- The state of one file, followed through the deeds.
-use Rattle.std.proofs.Common.{◌≡◌, inl, inr, ℕ, ◌+◌, ◌<◌, ◌≤◌, Bool, true, false, cond, eqb, leb, List, [], ◌∷◌, ◌++◌, ◌||◌, length, get_or, drop, refl, sym, ◌∙◌, ap, add-one}
+use Rattle.std.proofs.Common.{◌≡◌, inl, inr, Option, Some, ℕ, ◌+◌, ◌<◌, ◌≤◌, Bool, true, false, cond, eqb, leb, List, [], ◌∷◌, ◌++◌, ◌||◌, length, get_or, drop, refl, sym, ◌∙◌, ap, add-one}
 use Rattle.std.proofs.Math.Bool.{or_assoc}
 use Rattle.std.proofs.lemmas.Bool.{le-leb, lt-leb}
 use Rattle.std.proofs.lemmas.Bool.Decides.{eqb_tells}
 use Rattle.std.proofs.lemmas.List.{drop_more}
-use Rattle.dfs_host.specs.Disk.{FileState, Disk, is_within, written, cut_to, synced}
+use Rattle.std.specs.Option.{option_map_or}
+use Rattle.std.specs.HashMap.{HashMap, get}
+use Rattle.std.specs.declared.hash.FoldHasher.{FoldHasher}
+use Rattle.std.specs.declared.hash.BuildHasherDefault.{BuildHasherDefault}
+use Rattle.dfs_host.specs.Disk.{FileState, Disk, is_within, settled_file, written, cut_to, synced}
 use Rattle.dfs_mem.specs.declared.deed.Deed.{Deed}
 use Rattle.dfs_mem.specs.declared.deed.Deed.TheVariants.{Write, Cut, Sync, Say}
 use Rattle.dfs_mem.specs.declared.deed.Kept.{Kept}
-use Rattle.dfs_mem.specs.Deeds.{step, disk_after, put, tried}
-use Rattle.dfs_mem.specs.Images.{deeds_until, values_of}
-use Rattle.dfs_mem.specs.Track.{covers, file_step, file_after, said_step, said_after}
+use Rattle.dfs_mem.specs.Deeds.{step, disk_after, deeds_until, put, tried}
+use Rattle.dfs_mem.specs.Images.{values_of}
+use Rattle.dfs_mem.specs.declared.track.Track.{Track}
+use Rattle.dfs_mem.proofs.Given.{picked}
+use Rattle.dfs_mem.specs.Track.{covers, file_of, track_at, file_step, file_after, said_step, said_after}
 
 pub same_file : (a b : FileState) → a.bytes ≡ b.bytes → a.settled ≡ b.settled → ((place : ℕ) → a.touched place ≡ b.touched place) → a.least ≡ b.least → a.greatest ≡ b.greatest → a ≡ b
 same_file a b bytes settled touched least greatest = λ i. record { bytes = bytes i; settled = settled i; touched = λ place. touched place i; least = least i; greatest = greatest i }
@@ -78,3 +84,15 @@ step_said (Say bytes count) disk = refl
 pub disk_said : (deeds : List Kept) (disk : Disk) → (disk_after deeds disk).said ≡ said_after deeds disk.said
 disk_said [] disk = refl
 disk_said (kept ∷ deeds) disk = disk_said deeds (step kept.deed disk) ∙ ap (λ (said : List ℕ). said_after deeds said) (step_said kept.deed disk)
+
+-- All files, followed in a map.
+
+-- a file more
+pub track_at-put : (old new : HashMap ℕ Track (BuildHasherDefault FoldHasher)) (k n : ℕ) (track : Track) → get eqb new n ≡ cond (eqb k n) (Some track) (get eqb old n)
+    → track_at new n ≡ cond (eqb k n) (file_of track) (track_at old n)
+track_at-put old new k n track is =
+    ap (λ (o : Option Track). option_map_or file_of o (settled_file [])) is ∙ picked (eqb k n) file_of track (get eqb old n) (settled_file [])
+
+pub settled_cond : (b : Bool) (bytes other : List ℕ) → cond b (settled_file bytes) (settled_file other) ≡ settled_file (cond b bytes other)
+settled_cond true bytes other = refl
+settled_cond false bytes other = refl

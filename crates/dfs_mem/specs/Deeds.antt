@@ -1,5 +1,5 @@
 -- What a list of calls does to a disk, and the disks that there were on the way.
-use Rattle.std.specs.Prelude.{ℕ, Bool, List, [], ◌∷◌, ◌++◌, Vec, take, if◌then◌else◌, ◌==◌}
+use Rattle.std.specs.Prelude.{ℕ, Bool, nat_le, List, [], ◌∷◌, ◌++◌, Vec, take, if◌then◌else◌, ◌==◌}
 use Rattle.std.specs.declared.alloc.Global.{Global}
 use Rattle.dfs_host.specs.Disk.{FileState, Disk, settled_file, written, cut_to, synced}
 use Rattle.dfs_mem.specs.declared.deed.Deed.{Deed}
@@ -64,3 +64,8 @@ disk_after (kept ∷ deeds) disk = disk_after deeds (step kept.deed disk)
 abbrev pub disks_before : List Kept → Disk → List Disk
 disks_before [] disk = []
 disks_before (kept ∷ deeds) disk = passed kept.deed disk ++ disks_before deeds (step kept.deed disk)
+
+-- Of deeds in the order of their calls those of the first `moment` calls. Calls are numbered from 1.
+abbrev pub deeds_until : ℕ → List Kept → List Kept
+deeds_until moment [] = []
+deeds_until moment (kept ∷ deeds) = if nat_le kept.call moment then kept ∷ deeds_until moment deeds else []

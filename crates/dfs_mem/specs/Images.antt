@@ -1,6 +1,5 @@
 -- The disk after the first calls of a host, and which of the things that a crash may leave of it an image is.
-use Rattle.std.specs.Prelude.{◌≡◌, ℕ, false, IsTrue, zero, suc, nat_le, List, [], ◌∷◌, ◌++◌, slice_index, Vec, if◌then◌else◌}
-use Rattle.std.specs.declared.alloc.Global.{Global}
+use Rattle.std.specs.Prelude.{◌≡◌, ◌<◌, ℕ, zero, suc, List, [], ◌∷◌, ◌++◌, slice_index, if◌then◌else◌}
 use Rattle.dfs_host.specs.Disk.{FileState, Disk, Image}
 use Rattle.dfs_host.specs.Host.{bytes_of, said_of}
 use Rattle.dfs_mem.specs.declared.choice.Choice.{Choice}
@@ -8,17 +7,10 @@ use Rattle.dfs_mem.specs.declared.choice.Length.{Length}
 use Rattle.dfs_mem.specs.declared.choice.Length.TheVariants.{Least, Greatest}
 use Rattle.dfs_mem.specs.declared.choice.Fill.{Fill}
 use Rattle.dfs_mem.specs.declared.choice.Fill.TheVariants.{Settled, Latest, Byte}
-use Rattle.dfs_mem.specs.declared.deed.Kept.{Kept}
 use Rattle.dfs_mem.specs.declared.disk.MemDisk.{MemDisk}
 use Rattle.dfs_mem.specs.declared.host.MemHost.{MemHost}
-use Rattle.dfs_mem.specs.Deeds.{start_disk, disk_after}
-use Rattle.dfs_mem.specs.Files.{bytes_in, is_missing, numbers_differ}
-use Rattle.dfs_mem.specs.MemHost.{state_of}
-
--- Of deeds in the order of their calls those of the first `moment` calls. Calls are numbered from 1.
-abbrev pub deeds_until : ℕ → List Kept → List Kept
-deeds_until moment [] = []
-deeds_until moment (kept ∷ deeds) = if nat_le kept.call moment then kept ∷ deeds_until moment deeds else []
+use Rattle.dfs_mem.specs.Deeds.{start_disk, disk_after, deeds_until}
+use Rattle.dfs_mem.specs.MemHost.{state_of, calls_of}
 
 abbrev pub disk_until : MemDisk → ℕ → Disk
 disk_until mem moment = disk_after (deeds_until moment mem.deeds.items) (start_disk mem.start.items mem.start_said.items)
@@ -26,6 +18,16 @@ disk_until mem moment = disk_after (deeds_until moment mem.deeds.items) (start_d
 -- the disk after the first `moment` calls
 abbrev pub disk_at : MemHost → ℕ → Disk
 disk_at host moment = disk_until host.disk moment
+
+-- the disks at the moments before this call stay
+abbrev pub KeepsBefore : ℕ → MemDisk → MemDisk → Type 0
+KeepsBefore call old new = (moment : ℕ) → moment < call → disk_until new moment ≡ disk_until old moment
+
+-- One call more: at each moment before it the disk is what it was, and at its own moment the disk is what there is now. The moments
+-- before it are those up to the old count of calls, as long as that count rises.
+pub record KeepsMoments (old new : MemHost) : Type 0 where
+  pub before : (moment : ℕ) → moment < calls_of new → disk_at new moment ≡ disk_at old moment
+  pub last : disk_at new (calls_of new) ≡ (state_of new).disk
 
 -- the image's length
 abbrev pub length_of : Length → FileState → ℕ
@@ -54,11 +56,6 @@ image_of choice file = values_of (left_at choice.fill file) (length_of choice.le
 -- the image of file n of a disk
 abbrev pub image_in : MemDisk → Choice → ℕ → List ℕ
 image_in mem choice n = image_of choice ((disk_until mem choice.moment).files n)
-
--- a list of files: each has its image, and no two have one number
-pub record AreImages (mem : MemDisk) (choice : Choice) (files : List (ℕ × Vec ℕ Global)) : Type 0 where
-  pub differ : IsTrue (numbers_differ files)
-  pub bytes : (n : ℕ) → is_missing n files ≡ false → bytes_in files n ≡ image_in mem choice n
 
 -- what a host holds, as an image
 abbrev pub held : MemHost → Image

@@ -1,6 +1,10 @@
 -- The state of one file as a Track has it, and what deeds do to it.
-use Rattle.std.specs.Prelude.{ℕ, Bool, false, ◌||◌, List, [], ◌∷◌, ◌++◌, take, if◌then◌else◌, ◌==◌}
-use Rattle.dfs_host.specs.Disk.{FileState, is_within, written, cut_to, synced}
+use Rattle.std.specs.Prelude.{ℕ, Bool, false, ◌||◌, nat_eq, List, [], ◌∷◌, ◌++◌, take, if◌then◌else◌, ◌==◌}
+use Rattle.std.specs.Option.{option_map_or}
+use Rattle.std.specs.HashMap.{HashMap, get}
+use Rattle.std.specs.declared.hash.FoldHasher.{FoldHasher}
+use Rattle.std.specs.declared.hash.BuildHasherDefault.{BuildHasherDefault}
+use Rattle.dfs_host.specs.Disk.{FileState, is_within, settled_file, written, cut_to, synced}
 use Rattle.dfs_mem.specs.declared.deed.Deed.{Deed}
 use Rattle.dfs_mem.specs.declared.deed.Deed.TheVariants.{Write, Cut, Sync, Say}
 use Rattle.dfs_mem.specs.declared.deed.Kept.{Kept}
@@ -20,6 +24,10 @@ file_of track = record {
   least = track.least;
   greatest = track.greatest;
 }
+
+-- in a map: a file that is missing has no bytes and nothing touched
+abbrev pub track_at : HashMap ℕ Track (BuildHasherDefault FoldHasher) → ℕ → FileState
+track_at tracks n = option_map_or file_of (get nat_eq tracks n) (settled_file [])
 
 -- what a deed does to file n
 abbrev pub file_step : ℕ → Deed → FileState → FileState

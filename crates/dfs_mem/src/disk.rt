@@ -1,18 +1,21 @@
-ghost use Rattle.std.specs.Prelude.{◌≡◌, ◌≤◌, ◌<◌, ◌++◌, ◌∷◌, [], ℕ, All, vec_len, vec_capacity};
+ghost use Rattle.std.specs.Prelude.{◌≡◌, ◌≤◌, ◌<◌, ◌++◌, ◌∷◌, [], ℕ, All, IsTrue, vec_len, vec_capacity};
 ghost use Rattle.dfs_host.specs.Disk.{IsSound};
-ghost use Rattle.dfs_mem.specs.Files.{bytes_at};
-ghost use Rattle.dfs_mem.specs.Deeds.{start_disk, disk_after};
+ghost use Rattle.dfs_mem.specs.Files.{bytes_at, numbers_differ};
+ghost use Rattle.dfs_mem.specs.Deeds.{start_disk, disk_after, deeds_until};
 
 use crate::choice::Choice;
 use crate::deed::{Deed, Kept, Patch};
-use crate::files::{Files, content, copied, cut_if, find, lacks, write_if};
-use crate::track::{Track, file_number, heard_until};
+use crate::files::{Files, content, copied, cut_if, write_if};
+use crate::replay::{images_of, tracks_until};
+use crate::track::heard_until;
 use std::alloc::{AllocError, Global};
 
 // Keeps a deed for which there is room.
+#[tactic(auto, using(crate::proofs::Moments::until_push))]
 fn keep(deeds: &mut Vec<Kept>, kept: Kept)
     requires { vec_len deeds.old < vec_capacity deeds.old }
-    ensures { deeds.new.items ≡ deeds.old.items ++ kept ∷ [] }
+    ensures kept { deeds.new.items ≡ deeds.old.items ++ kept ∷ [] }
+    ensures moments { (moment : ℕ) → moment < kept.call → deeds_until moment deeds.new.items ≡ deeds_until moment deeds.old.items }
 {
     match deeds.push(kept) {
         Ok(()) => {}
@@ -30,6 +33,7 @@ pub struct MemDisk {
     last: u64,
     files: Files,
     said: Vec<u8>,
+    ghost differ: { IsTrue (numbers_differ start.items) },
     ghost numbered: { All (λ kept. kept.call ≤ last) deeds.items },
     ghost reads: { (n : ℕ) → bytes_at files n ≡ ((disk_after deeds.items (start_disk start.items start_said.items)).files n).bytes },
     ghost speaks: { said.items ≡ (disk_after deeds.items (start_disk start.items start_said.items)).said },
@@ -39,10 +43,9 @@ pub struct MemDisk {
 impl MemDisk {
     ghost use Rattle.std.specs.Prelude.{◌≡◌, ◌≤◌, ◌+◌, ◌^◌, ◌++◌, [], ◌∷◌, length, take, true, false, OnOk, OnErr};
     ghost use Rattle.std.specs.Prelude.{ℕ, IfOk, IsTrue};
-    ghost use Rattle.dfs_host.specs.Disk.{FileState, settled_file};
-    ghost use Rattle.dfs_mem.specs.Files.{bytes_in, is_missing, numbers_differ};
-    ghost use Rattle.dfs_mem.specs.Images.{disk_until, image_in, AreImages};
-    ghost use Rattle.dfs_mem.specs.Track.{file_of, file_step};
+    ghost use Rattle.dfs_host.specs.Disk.{settled_file};
+    ghost use Rattle.dfs_mem.specs.Files.{bytes_in, numbers_differ};
+    ghost use Rattle.dfs_mem.specs.Images.{disk_until, KeepsBefore, image_in};
     ghost use Rattle.dfs_mem.specs.Deeds.{write_step, cut_step, sync_step, say_step, spoken};
     ghost use Rattle.dfs_mem.specs.MemDisk.{disk_of, past_of, IsSame};
 
@@ -79,6 +82,7 @@ impl MemDisk {
         &self.said
     }
 
+    #[tactic(auto, using(crate::proofs::Deeds::one_deed))]
     pub fn write(
         &mut self,
         call: u64,
@@ -93,6 +97,7 @@ impl MemDisk {
         ensures disk { OnOk result (disk_of self.new ≡ write_step file at bytes.now done (disk_of self.old)) }
         ensures past { OnOk result (past_of self.new ≡ past_of self.old ++ disk_of self.old ∷ []) }
         ensures err { OnErr result (IsSame self.old self.new) }
+        ensures moments { KeepsBefore call self.old self.new }
         ensures last { self.new.last ≤ call }
     {
         let copy = bytes.to_vec(self.alloc)?;
@@ -105,12 +110,14 @@ impl MemDisk {
         Ok(())
     }
 
+    #[tactic(auto, using(crate::proofs::Deeds::one_deed))]
     pub fn cut(&mut self, call: u64, file: u32, len: u64, done: bool) -> Result<(), AllocError>
         requires later { self.old.last ≤ call }
         requires inside { len ≤ length ((disk_of self.old).files file).bytes }
         ensures disk { OnOk result (disk_of self.new ≡ cut_step file len done (disk_of self.old)) }
         ensures past { OnOk result (past_of self.new ≡ past_of self.old ++ disk_of self.old ∷ []) }
         ensures err { OnErr result (IsSame self.old self.new) }
+        ensures moments { KeepsBefore call self.old self.new }
         ensures last { self.new.last ≤ call }
     {
         self.deeds.reserve(1)?;
@@ -121,11 +128,13 @@ impl MemDisk {
         Ok(())
     }
 
+    #[tactic(auto, using(crate::proofs::Deeds::one_deed))]
     pub fn sync(&mut self, call: u64, file: u32) -> Result<(), AllocError>
         requires { self.old.last ≤ call }
         ensures disk { OnOk result (disk_of self.new ≡ sync_step file (disk_of self.old)) }
         ensures past { OnOk result (past_of self.new ≡ past_of self.old ++ disk_of self.old ∷ []) }
         ensures err { OnErr result (IsSame self.old self.new) }
+        ensures moments { KeepsBefore call self.old self.new }
         ensures last { self.new.last ≤ call }
     {
         self.deeds.reserve(1)?;
@@ -135,6 +144,7 @@ impl MemDisk {
         Ok(())
     }
 
+    #[tactic(auto, using(crate::proofs::Deeds::one_deed))]
     // Says the first `count` of the bytes.
     pub fn say(&mut self, call: u64, bytes: &[u8], count: usize) -> Result<(), AllocError>
         requires later { self.old.last ≤ call }
@@ -142,6 +152,7 @@ impl MemDisk {
         ensures disk { OnOk result (disk_of self.new ≡ say_step (take count bytes.now) (disk_of self.old)) }
         ensures past { OnOk result (past_of self.new ≡ past_of self.old ++ spoken bytes.now (disk_of self.old)) }
         ensures err { OnErr result (IsSame self.old self.new) }
+        ensures moments { KeepsBefore call self.old self.new }
         ensures last { self.new.last ≤ call }
     {
         let copy = bytes.to_vec(self.alloc)?;
@@ -153,16 +164,8 @@ impl MemDisk {
         Ok(())
     }
 
-    // The state of a file after the first `moment` calls.
-    fn tracked(&self, moment: u64, number: u32) -> Result<Track, AllocError>
-        ensures { IfOk result (λ track. file_of track ≡ (disk_until self.now moment).files number) }
-    {
-        let bytes = find(&self.start, number);
-        let track = Track::until(self.alloc, bytes, &self.deeds, moment, number)?;
-        Ok(track)
-    }
-
     // What was said after the first `moment` calls.
+    #[tactic(auto, using(crate::proofs::Tracks::disk_said))]
     fn said_until(&self, moment: u64) -> Result<Vec<u8>, AllocError>
         ensures { IfOk result (λ said. said.items ≡ (disk_until self.now moment).said) }
     {
@@ -170,71 +173,14 @@ impl MemDisk {
         Ok(said)
     }
 
-    // Adds the image of this file, unless the list has it.
-    fn add(
-        &self,
-        images: &mut Vec<(u32, Vec<u8>)>,
-        choice: Choice,
-        number: u32,
-    ) -> Result<(), AllocError>
-        requires { AreImages self.now choice images.old.items }
-        ensures images { OnOk result (AreImages self.now choice images.new.items) }
-        ensures added { OnOk result (is_missing number images.new.items ≡ false) }
-        ensures keeps { OnOk result ((n : ℕ) → is_missing n images.new.items ≡ true → is_missing n images.old.items ≡ true) }
-    {
-        if !lacks(images, number) {
-            return Ok(());
-        }
-        let track = self.tracked(choice.moment, number)?;
-        let bytes = track.image(self.alloc, choice)?;
-        images.push((number, bytes))?;
-        Ok(())
-    }
-
-    // The images of the files that were there at the start.
-    fn images_of_start(&self, choice: Choice) -> Result<Vec<(u32, Vec<u8>)>, AllocError>
-        ensures images { IfOk result (λ images. AreImages self.now choice images.items) }
-        ensures every { IfOk result (λ images. (n : ℕ) → is_missing n images.items ≡ true → is_missing n self.now.start.items ≡ true) }
-    {
-        let mut images = Vec::new(self.alloc);
-        let start: &[(u32, Vec<u8>)] = &self.start;
-        for (number, _) in start {
-            self.add(&mut images, choice, *number)?;
-        }
-        Ok(images)
-    }
-
-    // Adds the image of the file that the deed is on, unless the list has it.
-    fn add_of(
-        &self,
-        images: &mut Vec<(u32, Vec<u8>)>,
-        choice: Choice,
-        deed: &Deed,
-    ) -> Result<(), AllocError>
-        requires { AreImages self.now choice images.old.items }
-        ensures images { OnOk result (AreImages self.now choice images.new.items) }
-        ensures others { OnOk result ((n : ℕ) → is_missing n images.new.items ≡ true → (file : FileState) → file_step n deed.now file ≡ file) }
-        ensures keeps { OnOk result ((n : ℕ) → is_missing n images.new.items ≡ true → is_missing n images.old.items ≡ true) }
-    {
-        match file_number(deed) {
-            Some(number) => {
-                self.add(images, choice, number)?;
-                Ok(())
-            }
-            None => Ok(()),
-        }
-    }
-
     // The images of all files.
+    #[tactic(auto, using(crate::proofs::Tracks::disk_file))]
     fn images(&self, choice: Choice) -> Result<Vec<(u32, Vec<u8>)>, AllocError>
         ensures differ { IfOk result (λ images. IsTrue (numbers_differ images.items)) }
         ensures bytes { IfOk result (λ images. (n : ℕ) → bytes_in images.items n ≡ image_in self.now choice n) }
     {
-        let mut images = self.images_of_start(choice)?;
-        let deeds: &[Kept] = &self.deeds;
-        for kept in deeds {
-            self.add_of(&mut images, choice, &kept.deed)?;
-        }
+        let tracks = tracks_until(self.alloc, &self.start, &self.deeds, choice.moment)?;
+        let images = images_of(self.alloc, &tracks, choice)?;
         Ok(images)
     }
 

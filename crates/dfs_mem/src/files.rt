@@ -1,6 +1,6 @@
 ghost use Rattle.std.specs.Prelude.{◌≡◌, ◌≤◌, ◌+◌, ℕ, length, take, drop, ◌++◌, ◌==◌, if◌then◌else◌, OnOk, OnErr, IfOk, IsTrue};
 ghost use Rattle.dfs_host.specs.Disk.{overwritten};
-ghost use Rattle.dfs_mem.specs.Files.{bytes_at, bytes_in, is_missing, numbers_differ};
+ghost use Rattle.dfs_mem.specs.Files.{bytes_at, bytes_in, numbers_differ};
 
 use std::alloc::{AllocError, Global};
 use std::collections::HashMap;
@@ -87,30 +87,6 @@ pub fn cut_if(files: &mut Files, number: u32, len: usize, done: bool)
     if done {
         cut_file(files, number, len);
     }
-}
-
-// The bytes of the first file of this number in a list of files.
-pub fn find(files: &[(u32, Vec<u8>)], number: u32) -> &[u8]
-    ensures { result.now ≡ bytes_in files.now number }
-{
-    for (other, bytes) in files {
-        if *other == number {
-            return bytes;
-        }
-    }
-    &[]
-}
-
-// No file of a list has this number.
-pub fn lacks(files: &[(u32, Vec<u8>)], number: u32) -> bool
-    ensures { result ≡ is_missing number files.now }
-{
-    for (other, _) in files {
-        if *other == number {
-            return false;
-        }
-    }
-    true
 }
 
 // A copy of the files that are given.

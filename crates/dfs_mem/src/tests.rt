@@ -1,7 +1,10 @@
 ghost use Rattle.dfs_host.proofs.Files.{sound_when_settled};
 ghost use Rattle.dfs_host.specs.Counts.{RoseBy};
 ghost use Rattle.dfs_host.specs.Host.{silent_state};
-ghost use Rattle.std.specs.Prelude.{[]};
+ghost use Rattle.dfs_host.specs.Disk.{settled_file, written};
+ghost use Rattle.dfs_mem.specs.Images.{image_of};
+ghost use Rattle.dfs_mem.specs.MemHost.{state_of, calls_of};
+ghost use Rattle.std.specs.Prelude.{◌≡◌, ◌≤◌, ◌<◌, ◌+◌, ◌^◌, [], length, IfOk};
 
 use crate::{Call, Choice, Fill, Length, MemHost, MemSource};
 use dfs_host::{Failed, Host, Source};
@@ -207,5 +210,46 @@ fn an_image_is_what_a_crash_may_leave(rt: HostRuntime) -> Result<(), Fail> {
         assert_eq!(rt; image.file(1), want);
         assert_eq!(rt; image.said().len(), if moment < 2 { 0 } else { 2 });
     }
+    Ok(())
+}
+
+// What a crash between a write and the sync behind it may have left, asked for after both.
+fn image_between(
+    host: &mut MemHost,
+    file: u32,
+    bytes: &[u8],
+    choice: Choice,
+) -> Result<MemHost, Fail>
+    requires rises { calls_of host.old + 2 < 2 ^ 64 }
+    requires end { length bytes.now ≤ 2 ^ 63 }
+    ensures { IfOk result (λ image. (state_of image).disk.files file ≡ settled_file (image_of choice (written 0 bytes.now ((state_of host.old).disk.files file)))) }
+{
+    host.write_at(file, 0, bytes)?;
+    let moment = host.calls();
+    host.sync(file)?;
+    let image = host.image(Choice {
+        moment,
+        length: choice.length,
+        fill: choice.fill,
+    })?;
+    Ok(image)
+}
+
+#[test]
+fn a_moment_before_a_sync_is_still_told(rt: HostRuntime) -> Result<(), Fail> {
+    let alloc = rt.alloc();
+    let mut host = MemHost::new(alloc, Vec::new(alloc), Vec::new(alloc))?;
+    let image = image_between(
+        &mut host,
+        2,
+        b"new",
+        Choice {
+            moment: 0,
+            length: Length::Greatest,
+            fill: Fill::Byte(63),
+        },
+    )?;
+    assert_eq!(rt; image.file(2), b"???".as_slice());
+    assert_eq!(rt; host.file(2), b"new".as_slice());
     Ok(())
 }

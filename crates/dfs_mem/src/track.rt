@@ -1,10 +1,11 @@
 ghost use Rattle.std.specs.Prelude.{◌≡◌, ◌≢◌, ℕ, IfOk, OnOk, IfNone, IfSome, slice_index};
 ghost use Rattle.dfs_host.specs.Disk.{FileState, is_within, overwritten};
-ghost use Rattle.dfs_mem.specs.Images.{deeds_until};
+ghost use Rattle.dfs_mem.specs.Deeds.{deeds_until};
 ghost use Rattle.dfs_mem.specs.Track.{covers, file_step, said_step, said_after};
 
 use crate::choice::{Choice, Fill, Length};
 use crate::deed::{Deed, Kept, Patch};
+use crate::files::overwrite;
 use std::alloc::{AllocError, Global};
 
 // The state of one file, and the ranges that were written since its last sync, each a place and a length.
@@ -17,18 +18,15 @@ pub struct Track {
     greatest: u64,
 }
 
-// The old bytes with the new ones from a place on.
-fn patched(alloc: Global, at: u64, new: &[u8], old: &[u8]) -> Result<Vec<u8>, AllocError>
-    ensures { IfOk result (λ made. made.items ≡ overwritten at new.now old.now) }
+// Puts the new bytes over the old ones from a place on.
+fn patch_bytes(bytes: &mut Vec<u8>, at: usize, new: &[u8]) -> Result<(), AllocError>
+    ensures { OnOk result (bytes.new.items ≡ overwritten at new.now bytes.old.items) }
 {
-    let front = (at as usize).min(old.len());
-    let mut made = old[..front].to_vec(alloc)?;
-    made.extend_from_slice(new)?;
-    if at as usize >= old.len() || new.len() >= old.len() - at as usize {
-        return Ok(made);
+    if at <= bytes.len() {
+        return overwrite(bytes, at, new);
     }
-    made.extend_from_slice(&old[at as usize + new.len()..])?;
-    Ok(made)
+    bytes.extend_from_slice(new)?;
+    Ok(())
 }
 
 fn is_in(range: (u64, u64), place: u64) -> bool
@@ -103,8 +101,8 @@ impl Track {
     ghost use Rattle.std.specs.Prelude.{◌≡◌, IfOk, OnOk};
     ghost use Rattle.dfs_host.specs.Disk.{settled_file, written, cut_to, synced};
     ghost use Rattle.dfs_mem.specs.Deeds.{tried};
-    ghost use Rattle.dfs_mem.specs.Images.{deeds_until, left_at, length_of, image_of};
-    ghost use Rattle.dfs_mem.specs.Track.{file_of, file_step, file_after};
+    ghost use Rattle.dfs_mem.specs.Images.{left_at, length_of, image_of};
+    ghost use Rattle.dfs_mem.specs.Track.{file_of, file_step};
 
     // A file with nothing touched.
     pub fn new(alloc: Global, bytes: &[u8]) -> Result<Track, AllocError>
@@ -119,7 +117,7 @@ impl Track {
         })
     }
 
-    fn write(&mut self, alloc: Global, patch: &Patch, done: bool) -> Result<(), AllocError>
+    fn write(&mut self, patch: &Patch, done: bool) -> Result<(), AllocError>
         ensures { OnOk result (file_of self.new ≡ tried done (written patch.now.at patch.now.bytes.items (file_of self.old)) (file_of self.old)) }
     {
         let bytes: &[u8] = &patch.bytes;
@@ -127,7 +125,7 @@ impl Track {
         self.touched.push((patch.at, count))?;
         self.greatest = self.greatest.max(patch.at + count);
         if done {
-            self.bytes = patched(alloc, patch.at, bytes, &self.bytes)?;
+            patch_bytes(&mut self.bytes, patch.at as usize, bytes)?;
         }
         Ok(())
     }
@@ -158,7 +156,7 @@ impl Track {
         match deed {
             Deed::Write { file, patch, done } => {
                 if number == *file {
-                    return self.write(alloc, patch, *done);
+                    return self.write(patch, *done);
                 }
                 Ok(())
             }
@@ -177,26 +175,6 @@ impl Track {
             }
             Deed::Say { .. } => Ok(()),
         }
-    }
-
-    // The file of this number after the deeds of the first `moment` calls, where it had these bytes at first.
-    pub fn until(
-        alloc: Global,
-        bytes: &[u8],
-        deeds: &[Kept],
-        moment: u64,
-        number: u32,
-    ) -> Result<Track, AllocError>
-        ensures { IfOk result (λ track. file_of track ≡ file_after number (deeds_until moment deeds.now) (settled_file bytes.now)) }
-    {
-        let mut track = Track::new(alloc, bytes)?;
-        for kept in deeds {
-            if kept.call > moment {
-                return Ok(track);
-            }
-            track.follow(alloc, number, &kept.deed)?;
-        }
-        Ok(track)
     }
 
     fn length(&self, length: Length) -> u64

@@ -1,6 +1,6 @@
 use Rattle.std.proofs.Common.{ℕ, ◌<◌, ◌+◌, List, length, drop, sym, ◌∙◌, ap, arith}
 use Rattle.dfs_mem.specs.declared.deed.Kept.{Kept}
-use Rattle.dfs_mem.specs.Images.{deeds_until}
+use Rattle.dfs_mem.specs.Deeds.{deeds_until}
 use Rattle.dfs_mem.specs.Track.{said_after}
 use Rattle.dfs_mem.proofs.Tracks.{until_goes, until_ends}
 use Rattle.dfs_mem.proofs.track.heard_until.Goals as goal

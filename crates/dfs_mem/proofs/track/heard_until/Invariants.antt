@@ -1,5 +1,5 @@
 use Rattle.std.proofs.Common.{◌≡◌, drop}
-use Rattle.dfs_mem.specs.Images.{deeds_until}
+use Rattle.dfs_mem.specs.Deeds.{deeds_until}
 use Rattle.dfs_mem.specs.Track.{said_after}
 use Rattle.dfs_mem.proofs.track.heard_until.Given as goal
 

@@ -13,6 +13,7 @@ invariant_of-result c =
     let said = c.args.said.items in
     let none = ap (λ (l : List Kept). disk_after l (start_disk start said)) (sym c.new.ensures.items) in
     record {
+      differ = c.requires;
       numbered = subst (λ (l : List Kept). All (λ (k : Kept). k.call ≤ 0) l) (sym c.new.ensures.items) (All-nil (λ (k : Kept). k.call ≤ 0));
       reads = λ n. c.in_ok-files.ensures n ∙ ap (λ (l : List _). bytes_in l n) c.deref.ensures.value ∙ ap (λ (disk : Disk). (disk.files n).bytes) none;
       speaks = c.in_ok-now.ensures.items_if_clones_equal (λ x y same. same) ∙ c.deref-2.ensures.value ∙ ap (λ (disk : Disk). disk.said) none;

@@ -5,15 +5,14 @@ use Rattle.dfs_mem.specs.Track.{covers, file_of}
 use Rattle.dfs_mem.proofs.Tracks.{same_file, covers_push}
 use Rattle.dfs_mem.proofs.track.Track.write.Goals as goal
 
-pub returns-in_ok-self : goal.returns-in_ok-self
-returns-in_ok-self c =
+pub returns-in_ok-patch_bytes : goal.returns-in_ok-patch_bytes
+returns-in_ok-patch_bytes c =
     let track = c.args.self.now in
     let patch = c.args.patch.now in
     let count = ap length c.deref-bytes.ensures.value in
     same_file _ (tried c.args.done (written patch.at patch.bytes.items (file_of track)) (file_of track))
-    (c.in_ok-self.ensures
-    ∙ ap (λ (l : List ℕ). overwritten patch.at l c.deref.result.now) c.deref-bytes.ensures.value
-    ∙ ap (λ (l : List ℕ). overwritten patch.at patch.bytes.items l) c.deref.ensures.value
+    (c.in_ok-patch_bytes.ensures
+    ∙ ap (λ (l : List ℕ). overwritten patch.at l track.bytes.items) c.deref-bytes.ensures.value
     ∙ sym (ap (λ b. cond b (overwritten patch.at patch.bytes.items track.bytes.items) track.bytes.items) c.if-done.true))
     refl
     (λ place. ap (λ (l : List (ℕ × ℕ)). covers l place) c.in_ok-push.ensures.items

@@ -1,11 +1,12 @@
 //! The buffer.
 
-ghost use Rattle.std.specs.Prelude.{◌≡◌, List, [], ◌∷◌, ◌++◌, option_copied, IfSome, OnOk, OnErr};
+ghost use Rattle.std.specs.Prelude.{◌≡◌, ◌↔◌, List, [], ◌∷◌, ◌++◌, option_copied, IfSome, OnOk, OnErr};
 ghost use Rattle.dfs_record.specs.declared.Record.{Record as OwnRecord};
 ghost use Rattle.dfs_record.specs.Delta.{records_of, last_value};
 ghost use Rattle.dfs_record.specs.KeyMap.{get};
 ghost use Rattle.dfs_record.specs.Lend.{key_of};
 ghost use Rattle.dfs_record.specs.Record.{IsRecord, IsValue};
+ghost use Rattle.dfs_record.specs.Records.{Files};
 ghost use Rattle.dfs_buffer.specs.Buffer.{nothing, after_put, StandsFor};
 
 use crate::chunks::{find, put};
@@ -73,6 +74,7 @@ impl Buffer {
     pub fn records<'a>(&'a self) -> BufferRecords<'a>
         ensures rest { ⟦<BufferRecords<'a> as Records>⟧.rest result ≡ records_of self.now.held }
         ensures unread { ⟦<BufferRecords<'a> as Records>⟧.unread result ≡ 0 }
+        ensures comes { (files : Files) (l : List OwnRecord) → ⟦<BufferRecords<'a> as Records>⟧.Comes result files l ↔ (l ≡ records_of self.now.held) }
     {
         BufferRecords::new(&self.chunks)
     }

@@ -1,9 +1,9 @@
 -- The source that is taken first has the first record of the merged list.
-use Rattle.std.proofs.Common.{◌≡◌, ℕ, zero, suc, ◌+◌, ◌<◌, ◌≤◌, Bool, true, false, cond, T, ◌&&◌, ◌||◌, ◌==◌, List, [], ◌∷◌, ◌++◌, length, map, get_or, refl, sym, ap, subst, ◌∙◌, arith, eqb-true, nat_lt, lt-ltb, below_more}
+use Rattle.std.proofs.Common.{◌≡◌, ℕ, zero, suc, ◌<◌, ◌≤◌, Bool, true, false, cond, T, ◌&&◌, ◌||◌, ◌==◌, List, [], ◌∷◌, ◌++◌, length, map, get_or, refl, sym, ap, subst, ◌∙◌, arith, eqb-true, nat_lt, lt-ltb}
 use Rattle.std.specs.Prelude.{Option, Some, None, flat_map}
 use Rattle.std.specs.List.{list_any}
 use Rattle.std.specs.Ordering.{is_lt, is_le, is_eq, nat_cmp, ordering_then, ordering_reverse, eq_by_cmp}
-use Rattle.std.specs.Cmp.{IsTotalOrder, tied_itself, on_total, then_total, back_total, nat_cmp_total}
+use Rattle.std.specs.Cmp.{IsTotalOrder, on_total, then_total, back_total, nat_cmp_total}
 use Rattle.std.specs.FinMap.Entries.{where_key, find, below_all, is_sorted}
 use Rattle.std.specs.declared.cmp.Ordering.{Ordering}
 use Rattle.std.specs.declared.cmp.Ordering.TheVariants.{Less, Equal, Greater}
@@ -83,7 +83,7 @@ abbrev pub Stands : Key → Bool → List Record → ℕ → Type 0
 Stands k later [] unread = unread ≡ 0
 Stands k later (x ∷ xs) unread = (is_lt (key_cmp x.key k) ≡ false) × (later ≡ true → IsBelow k x.key)
 
-stands : (rs : List Record) (unread i t : ℕ) (k : Key) → is_lt (rank_cmp (rank_by rs unread i) (record { class = 1; key = k; index = t })) ≡ false → Stands k (nat_lt t i) rs unread
+pub stands : (rs : List Record) (unread i t : ℕ) (k : Key) → is_lt (rank_cmp (rank_by rs unread i) (record { class = 1; key = k; index = t })) ≡ false → Stands k (nat_lt t i) rs unread
 stands [] unread i t k h = by (unread == 0) refl h
   where
     by : (b : Bool) → (unread == 0) ≡ b → is_lt (ordering_then (nat_cmp (cond b 2 0) 1) (ordering_then (key_cmp (rank_by [] unread i).key k) (nat_cmp t i))) ≡ false → unread ≡ 0
@@ -289,29 +289,6 @@ pub compare_is : (ss : List Source) (i j : ℕ) (a b : Head) → IsHead (get_or 
     → ordering_then (head_cmp a b) (nat_cmp j i) ≡ rank_cmp (rank_at ss i) (rank_at ss j)
 compare_is ss i j a b p q =
     heads_compare a b i j ∙ sym (λ k. rank_cmp (rank_of (get_or ss i ended).rest (get_or ss i ended).unread i a p k) (rank_of (get_or ss j ended).rest (get_or ss j ended).unread j b q k))
-
--- ---- the least of the ranks so far
-
-pub record IsFirstBelow (ss : List Source) (n t : ℕ) : Type 0 where
-  pub within : t < length ss
-  pub least : (i : ℕ) → i < n → is_lt (rank_cmp (rank_at ss i) (rank_at ss t)) ≡ false
-
-not_itself : (x : Rank) → is_lt (rank_cmp x x) ≡ false
-not_itself x = ap is_lt (tied_itself rank_total x)
-
-pub first_stays : (ss : List Source) (n t : ℕ) → IsFirstBelow ss n t → is_lt (rank_cmp (rank_at ss n) (rank_at ss t)) ≡ false → IsFirstBelow ss (n + 1) t
-first_stays ss n t h up = record { within = h.within; least = below_more (λ i. is_lt (rank_cmp (rank_at ss i) (rank_at ss t)) ≡ false) n h.least up }
-
-pub first_moves : (ss : List Source) (n t : ℕ) → IsFirstBelow ss n t → n < length ss → is_lt (rank_cmp (rank_at ss n) (rank_at ss t)) ≡ true → IsFirstBelow ss (n + 1) n
-first_moves ss n t h l lt = record {
-  within = l;
-  least = below_more (λ i. is_lt (rank_cmp (rank_at ss i) (rank_at ss n)) ≡ false) n (λ i m. by i (rank_cmp (rank_at ss i) (rank_at ss n)) refl (h.least i m)) (not_itself (rank_at ss n));
-}
-  where
-    by : (i : ℕ) (o : Ordering) → rank_cmp (rank_at ss i) (rank_at ss n) ≡ o → is_lt (rank_cmp (rank_at ss i) (rank_at ss t)) ≡ false → is_lt o ≡ false
-    by i Less e up = absurd (subst T (sym (ap is_lt (rank_total.trans (rank_at ss i) (rank_at ss n) (rank_at ss t) e (less _ (subst T (sym lt) tt)))) ∙ up) tt)
-    by i Equal e up = refl
-    by i Greater e up = refl
 
 -- the head of the source that is taken first is the head of the merge
 pub head_is : (ss : List Source) (t : ℕ) → IsFirst ss t → AllRise ss → (h : Head) → IsHead (get_or ss t ended).rest (get_or ss t ended).unread h → IsHead (merged_rest ss) (all_unread ss) h

@@ -1,3 +1,4 @@
 pub mod Firsts
 pub mod Taking
 pub mod Passing
+pub mod Matches

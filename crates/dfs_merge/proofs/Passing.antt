@@ -1,5 +1,5 @@
 -- Sources after a key was taken off them.
-use Rattle.std.proofs.Common.{◌≡◌, ℕ, zero, suc, ◌+◌, ◌<◌, ◌⊎◌, inl, inr, Bool, true, false, cond, not, T, ◌&&◌, ◌==◌, List, [], ◌∷◌, ◌++◌, length, map, get_or, set, drop, refl, sym, ap, subst, ◌∙◌, arith, eqb-true, nat_lt, ltb-true, ltb-false}
+use Rattle.std.proofs.Common.{◌≡◌, ℕ, zero, suc, ◌+◌, ◌<◌, ◌≤◌, ◌⊎◌, inl, inr, Bool, true, false, cond, not, T, ◌&&◌, ◌==◌, List, [], ◌∷◌, ◌++◌, length, map, get_or, set, drop, refl, sym, ap, subst, ◌∙◌, arith, eqb-true, nat_lt, ltb-true, ltb-false}
 use Rattle.std.proofs.lemmas.Bool.{eqb-false}
 use Rattle.std.proofs.lemmas.List.{get_or-set_same, get_or-set_other, length-set}
 use Rattle.std.specs.Prelude.{Option}
@@ -13,7 +13,7 @@ use Rattle.dfs_record.specs.Key.{key_cmp, keys_total}
 use Rattle.dfs_record.specs.Delta.{merged}
 use Rattle.dfs_record.specs.Records.{Files, KeysRise, IsBelow}
 use Rattle.dfs_record.proofs.Maps.{alike_keys, same_key}
-use Rattle.dfs_merge.specs.Sources.{ended, source, sources, AllCome, without, taken, IsTaken, ArePassed, IsAdvanced}
+use Rattle.dfs_merge.specs.Sources.{Source, ended, source, sources, AllCome, without, taken, IsTaken, ArePassed, IsAdvanced}
 use Rattle.dfs_merge.specs.Rank.{have_one_key, IsStep, OthersPassed}
 use Rattle.dfs_merge.specs.Laws.{first, second, less, AreLists}
 use Rattle.dfs_merge.specs.Sources.{merged_rest, all_unread, least_bound, IsMergePassed}
@@ -208,21 +208,9 @@ module _ {S : Type 0} (rest : S → List Record) (unread : S → ℕ) (bound : S
           (ap rest to ∙ a.rest_is d ∙ ap (λ x. drop 1 (rest x)) (sym back)) (ap unread to ∙ a.unread_is d ∙ ap unread (sym back)) (ap bound to ∙ a.bound_is d ∙ ap bound (sym back))
           (λ files m h. subst (λ x. Comes x files (drop 1 m)) (sym to) (a.comes d files m (subst (λ x. Comes x files m) back h)))))
 
-  pub others_none : (olds : List S) (t : ℕ) → OthersPassed rest unread bound Comes t 0 olds olds
-  others_none olds t = record {
-    passed = λ r rs at. record { len = refl; each = λ i d l. inr refl };
-    len = refl;
-    same = λ d. refl;
-    apart = λ j d l. absurd (omega arith);
-  }
-
   one_key : (l : List Record) (r : Record) (rs : List Record) → have_one_key l (r ∷ rs) ≡ true → (x : Record) × (xs : List Record) × (l ≡ x ∷ xs) × (x.key ≡ r.key)
   one_key [] r rs h = absurd (true_not_false (sym h))
   one_key (x ∷ xs) r rs h = (x, xs, refl, alike_keys x.key r.key h)
-
-  none_of_none : (l : List Record) → have_one_key l [] ≡ false
-  none_of_none [] = refl
-  none_of_none (x ∷ xs) = refl
 
   -- behind its first record a list has another key
   behind_apart : (l m : List Record) → KeysRise l → have_one_key l m ≡ true → have_one_key (drop 1 l) m ≡ false
@@ -234,52 +222,102 @@ module _ {S : Type 0} (rest : S → List Record) (unread : S → ℕ) (bound : S
       let up : IsBelow r.key y.key = subst (λ k. IsBelow k y.key) same (less _ (first _ _ (first _ _ rise))) in
       ap is_eq (keys_total.antisymm y.key r.key ∙ ap ordering_reverse up)
 
-  module _ (olds curs news : List S) (t n : ℕ) (within : t < length olds) (l : n < length olds) (p : OthersPassed rest unread bound Comes t n olds curs) where
-    rest_at : (i : ℕ) (d : S) → i < length curs → (get_or (sources rest unread bound curs) i ended).rest ≡ rest (get_or curs i d)
-    rest_at i d m = ap (λ s. s.rest) (at_source curs i d m)
+  abbrev At : List S → ℕ → Source
+  At ss i = get_or (sources rest unread bound ss) i ended
 
-    first_same : (d : S) → (get_or (sources rest unread bound curs) t ended).rest ≡ rest (get_or olds t d)
-    first_same d = rest_at t d (omega (arith, p.len)) ∙ ap rest (p.same d)
+  pub source_same : (olds news : List S) (i : ℕ) → length news ≡ length olds → ((d : S) → get_or news i d ≡ get_or olds i d) → At news i ≡ At olds i
+  source_same [] [] i e h = refl
+  source_same [] (t ∷ ts) i e h = absurd (omega arith)
+  source_same (s ∷ ss) [] i e h = absurd (omega arith)
+  source_same (s ∷ ss) (t ∷ ts) zero e h = ap (source rest unread bound) (h s)
+  source_same (s ∷ ss) (t ∷ ts) (suc i) e h = source_same ss ts i (omega arith) h
 
-    step_same : news ≡ curs → (n ≡ t) ⊎ (have_one_key (get_or (sources rest unread bound curs) n ended).rest (get_or (sources rest unread bound curs) t ended).rest ≡ false) → OthersPassed rest unread bound Comes t (n + 1) olds news
-    step_same e why = subst (OthersPassed rest unread bound Comes t (n + 1) olds) (sym e) (record {
-      passed = p.passed;
-      len = p.len;
-      same = p.same;
-      apart = λ j d m other. by j d m other (j == n) refl why;
-    })
+  source_advanced : (olds news : List S) (i : ℕ) → IsAdvanced rest unread bound Comes i olds news → (At news i).rest ≡ drop 1 (At olds i).rest
+  source_advanced [] news i a = absurd (omega (arith, a.within))
+  source_advanced (s ∷ ss) news i a =
+      ap (λ x. x.rest) (at_source news i s (omega (arith, a.len, a.within))) ∙ a.rest_is s ∙ sym (ap (λ x. drop 1 x.rest) (at_source (s ∷ ss) i s a.within))
+
+  -- ---- the sources of a part of the tree
+
+  none_passed : (olds : List S) (k : Key) → ArePassed rest unread bound Comes k olds olds
+  none_passed olds k = record { len = refl; each = λ i d l. inr refl }
+
+  -- where all of them have another key, they are left alone
+  pub others_kept : (olds : List S) (t low high : ℕ) → ((j : ℕ) → low ≤ j → j < high → ¬ (j ≡ t) → have_one_key (At olds j).rest (At olds t).rest ≡ false) → OthersPassed rest unread bound Comes t low high olds olds
+  others_kept olds t low high h = record {
+    passed = λ r rs at. none_passed olds r.key;
+    len = refl;
+    same = λ d. refl;
+    outside = λ j d o. refl;
+    apart = h;
+  }
+
+  step_kept : (olds : List S) (t i : ℕ) → (i ≡ t) ⊎ (have_one_key (At olds i).rest (At olds t).rest ≡ false) → (j : ℕ) → i ≤ j → j < i + 1 → ¬ (j ≡ t) → have_one_key (At olds j).rest (At olds t).rest ≡ false
+  step_kept olds t i (inl e) j m l ne = absurd (ne (omega arith))
+  step_kept olds t i (inr e) j m l ne = subst (λ x. have_one_key (At olds x).rest (At olds t).rest ≡ false) (omega arith) e
+
+  step_advanced : (olds news : List S) (t i : ℕ) → IsAdvanced rest unread bound Comes i olds news → ¬ (i ≡ t) → have_one_key (At olds i).rest (At olds t).rest ≡ true → OthersPassed rest unread bound Comes t i (i + 1) olds news
+  step_advanced olds news t i a ne one = record {
+    passed = λ r rs at. passed_more olds olds news r.key i (none_passed olds r.key) a (λ d.
+        one_key (rest (get_or olds i d)) r rs (ap (λ x. have_one_key x.rest (r ∷ rs)) (sym (at_source olds i d a.within)) ∙ ap (have_one_key (At olds i).rest) (sym at) ∙ one));
+    len = a.len;
+    same = λ d. a.others t d (λ e. ne (sym e));
+    outside = λ j d o. a.others j d (λ e. apart_from_i j o e);
+    apart = λ j m l other.
+        subst (λ x. have_one_key (At news x).rest (At olds t).rest ≡ false) (omega arith)
+        (ap (λ x. have_one_key x (At olds t).rest) (source_advanced olds news i a) ∙ behind_apart (At olds i).rest (At olds t).rest (all_rise olds i) one);
+  }
+    where
+      apart_from_i : (j : ℕ) → (j < i) ⊎ (i + 1 ≤ j) → j ≡ i → ⊥
+      apart_from_i j (inl l) e = omega arith
+      apart_from_i j (inr l) e = omega arith
+
+  pub others_step : (olds news : List S) (t i low high : ℕ) → i ≡ low → high ≡ low + 1 → IsStep rest unread bound Comes i t olds news → OthersPassed rest unread bound Comes t low high olds news
+  others_step olds news t i low high a b step = subst (λ n. OthersPassed rest unread bound Comes t n high olds news) a (subst (λ n. OthersPassed rest unread bound Comes t i n olds news) (sym (b ∙ ap (λ n. n + 1) (sym a))) (by step))
+    where
+      by : IsStep rest unread bound Comes i t olds news → OthersPassed rest unread bound Comes t i (i + 1) olds news
+      by (inl q) = subst (OthersPassed rest unread bound Comes t i (i + 1) olds) (sym q.0) (others_kept olds t i (i + 1) (step_kept olds t i q.1))
+      by (inr q) = step_advanced olds news t i q.0 q.1 q.2
+
+  -- two parts side by side
+  module _ (olds curs news : List S) (t low middle high : ℕ) (a : low ≤ middle) (b : middle ≤ high) (p : OthersPassed rest unread bound Comes t low middle olds curs) (q : OthersPassed rest unread bound Comes t middle high curs news) where
+    joined_each : (k : Key) → ArePassed rest unread bound Comes k olds curs → ArePassed rest unread bound Comes k curs news → (i : ℕ) (d : S) → i < length olds → Taken k (get_or olds i d) (get_or news i d) ⊎ (get_or news i d ≡ get_or olds i d)
+    joined_each k x y i d l = by (nat_lt i middle) refl
       where
-        by : (j : ℕ) (d : S) → j < n + 1 → ¬ (j ≡ t) → (b : Bool) → (j == n) ≡ b → (n ≡ t) ⊎ (have_one_key (get_or (sources rest unread bound curs) n ended).rest (get_or (sources rest unread bound curs) t ended).rest ≡ false) → have_one_key (rest (get_or curs j d)) (rest (get_or olds t d)) ≡ false
-        by j d m other false f w = p.apart j d (below_or j n m (eqb-false j n f)) other
-        by j d m other true f (inl q) = absurd (other (eqb-true j n f ∙ q))
-        by j d m other true f (inr q) =
-            let at : j ≡ n = eqb-true j n f in
-            ap (λ x. have_one_key (rest (get_or curs x d)) (rest (get_or olds t d))) at ∙ sym (λ i. have_one_key (rest_at n d (omega (arith, p.len)) i) (first_same d i)) ∙ q
+        by : (c : Bool) → nat_lt i middle ≡ c → Taken k (get_or olds i d) (get_or news i d) ⊎ (get_or news i d ≡ get_or olds i d)
+        by true e = subst (λ z. Taken k (get_or olds i d) z ⊎ (z ≡ get_or olds i d)) (sym (q.outside i d (inl (ltb-true i middle e)))) (x.each i d l)
+        by false e = subst (λ z. Taken k z (get_or news i d) ⊎ (get_or news i d ≡ z)) (p.outside i d (inr (ltb-false i middle e))) (y.each i d (omega (arith, p.len)))
 
-    step_advanced : IsAdvanced rest unread bound Comes n curs news → ¬ (n ≡ t) → have_one_key (get_or (sources rest unread bound curs) n ended).rest (get_or (sources rest unread bound curs) t ended).rest ≡ true → OthersPassed rest unread bound Comes t (n + 1) olds news
-    step_advanced a ne one = record {
-      passed = λ r rs at. passed_more olds curs news r.key n (p.passed r rs at) a (λ d.
-          let o = ap (λ s. s.rest) (at_source olds t d within) in
-          one_key (rest (get_or curs n d)) r rs (sym (λ i. have_one_key (rest_at n d (omega (arith, p.len)) i) ((first_same d ∙ sym o ∙ at) i)) ∙ one));
-      len = a.len ∙ p.len;
-      same = λ d. a.others t d (λ e. ne (sym e)) ∙ p.same d;
-      apart = λ j d m other. by j d m other (j == n) refl;
+    joined_outside : (j : ℕ) (d : S) → (j < low) ⊎ (high ≤ j) → get_or news j d ≡ get_or olds j d
+    joined_outside j d (inl l) = q.outside j d (inl (omega arith)) ∙ p.outside j d (inl l)
+    joined_outside j d (inr l) = q.outside j d (inr l) ∙ p.outside j d (inr (omega arith))
+
+    first_kept_still : At curs t ≡ At olds t
+    first_kept_still = source_same olds curs t p.len p.same
+
+    joined_apart : (j : ℕ) → low ≤ j → j < high → ¬ (j ≡ t) → have_one_key (At news j).rest (At olds t).rest ≡ false
+    joined_apart j m l ne = by (nat_lt j middle) refl
+      where
+        by : (c : Bool) → nat_lt j middle ≡ c → have_one_key (At news j).rest (At olds t).rest ≡ false
+        by true e =
+            let under : j < middle = ltb-true j middle e in
+            ap (λ s. have_one_key s.rest (At olds t).rest) (source_same curs news j q.len (λ d. q.outside j d (inl under))) ∙ p.apart j m under ne
+        by false e = ap (λ s. have_one_key (At news j).rest s.rest) (sym first_kept_still) ∙ q.apart j (ltb-false j middle e) l ne
+
+    pub others_join : OthersPassed rest unread bound Comes t low high olds news
+    others_join = record {
+      passed = λ r rs at.
+          let x = p.passed r rs at in
+          let y = q.passed r rs (ap (λ s. s.rest) first_kept_still ∙ at) in
+          record { len = y.len ∙ x.len; each = joined_each r.key x y };
+      len = q.len ∙ p.len;
+      same = λ d. q.same d ∙ p.same d;
+      outside = joined_outside;
+      apart = joined_apart;
     }
-      where
-        by : (j : ℕ) (d : S) → j < n + 1 → ¬ (j ≡ t) → (b : Bool) → (j == n) ≡ b → have_one_key (rest (get_or news j d)) (rest (get_or olds t d)) ≡ false
-        by j d m other false f = ap (λ x. have_one_key (rest x) (rest (get_or olds t d))) (a.others j d (eqb-false j n f)) ∙ p.apart j d (below_or j n m (eqb-false j n f)) other
-        by j d m other true f =
-            let at : j ≡ n = eqb-true j n f in
-            ap (λ x. have_one_key (rest (get_or news x d)) (rest (get_or olds t d))) at
-            ∙ ap (λ x. have_one_key x (rest (get_or olds t d))) (a.rest_is d)
-            ∙ behind_apart (rest (get_or curs n d)) (rest (get_or olds t d)) (rises (get_or curs n d)) (sym (λ i. have_one_key (rest_at n d (omega (arith, p.len)) i) (first_same d i)) ∙ one)
-
-    pub others_step : IsStep rest unread bound Comes n t curs news → OthersPassed rest unread bound Comes t (n + 1) olds news
-    others_step (inl q) = step_same q.0 q.1
-    others_step (inr q) = step_advanced q.0 q.1 q.2
 
   each_taken : (olds curs news : List S) (t : ℕ) (r : Record) (rs : List Record) → IsFirst (sources rest unread bound olds) t → (get_or (sources rest unread bound olds) t ended).rest ≡ r ∷ rs → t < length olds
-      → OthersPassed rest unread bound Comes t (length olds) olds curs → IsAdvanced rest unread bound Comes t curs news → ArePassed rest unread bound Comes r.key olds news → (i : ℕ) (d : S) → i < length olds → Taken r.key (get_or olds i d) (get_or news i d)
+      → OthersPassed rest unread bound Comes t 0 (length olds) olds curs → IsAdvanced rest unread bound Comes t curs news → ArePassed rest unread bound Comes r.key olds news → (i : ℕ) (d : S) → i < length olds → Taken r.key (get_or olds i d) (get_or news i d)
   each_taken olds curs news t r rs least at within p a passed i d l = by (i == t) refl (passed.each i d l)
     where
       by : (b : Bool) → (i == t) ≡ b → Taken r.key (get_or olds i d) (get_or news i d) ⊎ (get_or news i d ≡ get_or olds i d) → Taken r.key (get_or olds i d) (get_or news i d)
@@ -294,7 +332,8 @@ module _ {S : Type 0} (rest : S → List Record) (unread : S → ℕ) (bound : S
           let ne = eqb-false i t e in
           let still : get_or news i d ≡ get_or curs i d = a.others i d ne in
           let had : rest (get_or olds t d) ≡ r ∷ rs = sym (ap (λ s. s.rest) (at_source olds t d within)) ∙ at in
-          let other : have_one_key (rest (get_or olds i d)) (r ∷ rs) ≡ false = sym (λ k. have_one_key (rest ((sym still ∙ q) k)) (had k)) ∙ p.apart i d l ne in
+          let here' : (At curs i).rest ≡ rest (get_or olds i d) = ap (λ s. s.rest) (at_source curs i d (omega (arith, p.len))) ∙ ap rest (sym still ∙ q) in
+          let other : have_one_key (rest (get_or olds i d)) (r ∷ rs) ≡ false = sym (λ k. have_one_key (here' k) (at k)) ∙ p.apart i (omega arith) l ne in
           let st = each_stands (sources rest unread bound olds) t least (all_rise olds) r rs at i (source_len rest unread bound olds i l) in
           let here = at_source olds i d l in
           let st' : Stands r.key false (rest (get_or olds i d)) (unread (get_or olds i d)) = weaker r.key (nat_lt t i) _ _ (subst (λ s. Stands r.key (nat_lt t i) s.rest s.unread) here st) in
@@ -313,7 +352,7 @@ module _ {S : Type 0} (rest : S → List Record) (unread : S → ℕ) (bound : S
           absurd (omega (arith, some, ap length (head_hungry (sources rest unread bound olds) t least.within e more).0))
 
   pub merge_passed : (olds curs news : List S) (t : ℕ) → IsFirst (sources rest unread bound olds) t → 0 < length (merged_rest (sources rest unread bound olds))
-      → OthersPassed rest unread bound Comes t (length olds) olds curs → IsAdvanced rest unread bound Comes t curs news → IsMergePassed rest unread bound Comes olds news
+      → OthersPassed rest unread bound Comes t 0 (length olds) olds curs → IsAdvanced rest unread bound Comes t curs news → IsMergePassed rest unread bound Comes olds news
   merge_passed olds curs news t least some p a =
       let ss = sources rest unread bound olds in
       let f = first_some olds t least some in
@@ -356,7 +395,7 @@ module _ {S : Type 0} (rest : S → List Record) (unread : S → ℕ) (bound : S
       }
 
   -- the source that is taken first still has its record, once the others are passed
-  pub still_some : (olds curs : List S) (t : ℕ) (y : S) → IsFirst (sources rest unread bound olds) t → 0 < length (merged_rest (sources rest unread bound olds)) → OthersPassed rest unread bound Comes t (length olds) olds curs → y ≡ get_or curs t y → 0 < length (rest y)
+  pub still_some : (olds curs : List S) (t : ℕ) (y : S) → IsFirst (sources rest unread bound olds) t → 0 < length (merged_rest (sources rest unread bound olds)) → OthersPassed rest unread bound Comes t 0 (length olds) olds curs → y ≡ get_or curs t y → 0 < length (rest y)
   still_some olds curs t y least some p at =
       let f = first_some olds t least some in
       let within = len_source rest unread bound olds t least.within in

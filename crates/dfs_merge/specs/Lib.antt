@@ -1,3 +1,4 @@
 pub mod Sources
 pub mod Rank
 pub mod Laws
+pub mod Tree

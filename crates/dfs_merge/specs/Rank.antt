@@ -1,5 +1,5 @@
 -- Which of the sources is to be taken first.
-use Rattle.std.specs.Prelude.{◌≡◌, ℕ, ◌<◌, ◌==◌, ◌⊎◌, Option, Bool, true, false, if◌then◌else◌, List, [], ◌∷◌, length, slice_index_or}
+use Rattle.std.specs.Prelude.{◌≡◌, ℕ, ◌<◌, ◌≤◌, ◌==◌, ◌⊎◌, Option, Bool, true, false, if◌then◌else◌, List, [], ◌∷◌, length, slice_index_or}
 use Rattle.std.specs.declared.cmp.Ordering.{Ordering}
 use Rattle.std.specs.Ordering.{nat_cmp, ordering_then, is_lt, is_eq}
 use Rattle.dfs_record.specs.declared.records.Head.{Head}
@@ -34,6 +34,10 @@ rank_cmp a b = ordering_then (nat_cmp a.class b.class) (ordering_then (key_cmp a
 abbrev pub rank_at : List Source → ℕ → Rank
 rank_at ss i = rank (slice_index_or ss i ended) i
 
+-- of two sources the one that stands first
+abbrev pub better_of : List Source → ℕ → ℕ → ℕ
+better_of ss a b = if is_lt (rank_cmp (rank_at ss b) (rank_at ss a)) then b else a
+
 -- no source stands before this one
 pub record IsFirst (ss : List Source) (first : ℕ) : Type 0 where
   pub within : first < length ss
@@ -60,9 +64,10 @@ IsStep rest unread bound Comes i first old new =
     ((new ≡ old) × ((i ≡ first) ⊎ (have_one_key (slice_index_or (sources rest unread bound old) i ended).rest (slice_index_or (sources rest unread bound old) first ended).rest ≡ false)))
     ⊎ (IsAdvanced rest unread bound Comes i old new × (¬ (i ≡ first)) × (have_one_key (slice_index_or (sources rest unread bound old) i ended).rest (slice_index_or (sources rest unread bound old) first ended).rest ≡ true))
 
--- the first key is taken off all sources but the first one
-pub record OthersPassed {S : Type 0} (rest : S → List Record) (unread : S → ℕ) (bound : S → Option Key) (Comes : S → Files → List Record → Type 0) (first n : ℕ) (old new : List S) : Type 0 where
+-- the first key is taken off the sources from `low` up to, not with, `high`, but for the first one
+pub record OthersPassed {S : Type 0} (rest : S → List Record) (unread : S → ℕ) (bound : S → Option Key) (Comes : S → Files → List Record → Type 0) (first low high : ℕ) (old new : List S) : Type 0 where
   pub passed : (r : Record) (rs : List Record) → (slice_index_or (sources rest unread bound old) first ended).rest ≡ r ∷ rs → ArePassed rest unread bound Comes r.key old new
   pub len : length new ≡ length old
   pub same : (d : S) → slice_index_or new first d ≡ slice_index_or old first d
-  pub apart : (j : ℕ) (d : S) → j < n → ¬ (j ≡ first) → have_one_key (rest (slice_index_or new j d)) (rest (slice_index_or old first d)) ≡ false
+  pub outside : (j : ℕ) (d : S) → (j < low) ⊎ (high ≤ j) → slice_index_or new j d ≡ slice_index_or old j d
+  pub apart : (j : ℕ) → low ≤ j → j < high → ¬ (j ≡ first) → have_one_key (slice_index_or (sources rest unread bound new) j ended).rest (slice_index_or (sources rest unread bound old) first ended).rest ≡ false

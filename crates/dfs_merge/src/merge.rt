@@ -5,10 +5,11 @@ ghost use Rattle.dfs_record.specs.Delta.{merged};
 ghost use Rattle.dfs_record.specs.Records.{Files};
 ghost use Rattle.dfs_record.specs.declared.Record.{Record as OwnRecord};
 ghost use Rattle.dfs_merge.specs.Laws.{rest_rises as merge_rises, bound_none as merge_bound_none, bound_above as merge_bound_above, comes_rises as merge_comes_rises, comes_begins as merge_comes_begins, comes_loaded as merge_comes_loaded};
-ghost use Rattle.dfs_merge.specs.Rank.{IsFirst};
 ghost use Rattle.dfs_merge.specs.Sources.{sources as sources_of, merged_rest, all_unread, least_bound, MergedComes, IsMergePassed};
+ghost use Rattle.dfs_merge.specs.Tree.{IsTournament};
 
-use crate::rank::{first_of, head_at, pass_others};
+use crate::rank::head_at;
+use crate::tree::Tree;
 use dfs_record::{Head, NoMemory, Records};
 use std::alloc::Global;
 use std::marker::Model;
@@ -17,17 +18,22 @@ use std::marker::Model;
 #[derive(Drop)]
 pub struct Merge<C: Records> {
     sources: Vec<C>,
+    tree: Option<Tree>,
 }
 
 impl<C: Records> Model for Merge<C> {
     ghost use Rattle.std.specs.Prelude.{List};
+    ghost use Rattle.dfs_merge.specs.Sources.{sources as sources_of};
+    ghost use Rattle.dfs_merge.specs.Tree.{IsTreeOf};
 
     ghost Value = { List C };
 
     ghost view = { λ m. m.sources.items };
+
+    ghost invariant = { λ m. IsTreeOf (sources_of C.rest C.unread C.bound m.sources.items) m.tree };
 }
 
-impl<C: Records> Merge<C> {
+impl<C: Records + Drop> Merge<C> {
     /// The merge of these sources, oldest first. It is the only call that takes memory.
     pub fn new(alloc: Global, sources: Vec<C>) -> Result<Merge<C>, NoMemory>
         ensures sources { IfOk result (λ merge. merge ≡ sources.items) }
@@ -37,8 +43,12 @@ impl<C: Records> Merge<C> {
         ensures comes { (files : Files) (l : List OwnRecord) → IfOk result (λ merge. ⟦<Merge<C> as Records>⟧.Comes merge files l ↔ MergedComes C.Comes sources.items files l) }
         ensures bound { IfOk result (λ merge. ⟦<Merge<C> as Records>⟧.bound merge ≡ least_bound (sources_of C.rest C.unread C.bound sources.items)) }
     {
-        let _ = alloc;
-        Ok(Merge { sources })
+        let tree = if sources.is_empty() {
+            None
+        } else {
+            Some(Tree::build(alloc, &sources, 0, sources.len())?)
+        };
+        Ok(Merge { sources, tree })
     }
 }
 
@@ -52,15 +62,15 @@ impl<C: Records> Records for Merge<C> {
     ghost Comes = { λ s files l. MergedComes C.Comes s files l };
 
     fn head(&self) -> Head<'_> {
-        match first_of(&self.sources) {
+        match &self.tree {
             None => Head::End,
-            Some(first) => head_at(&self.sources, first),
+            Some(tree) => head_at(&self.sources, tree.winner()),
         }
     }
 
     fn advance(&mut self) {
-        if let Some(first) = first_of(&self.sources) {
-            pass(&mut self.sources, first);
+        if let Some(tree) = &mut self.tree {
+            pass(tree, &mut self.sources);
         }
     }
 
@@ -78,11 +88,14 @@ impl<C: Records> Records for Merge<C> {
 }
 
 /// Takes the first key off all sources.
-fn pass<C: Records>(sources: &mut Vec<C>, first: usize)
-    requires first { IsFirst (sources_of C.rest C.unread C.bound sources.old.items) first }
+fn pass<C: Records>(tree: &mut Tree, sources: &mut Vec<C>)
+    requires tree { IsTournament (sources_of C.rest C.unread C.bound sources.old.items) 0 (length sources.old.items) tree.old }
     requires some { 0 < length (merged_rest (sources_of C.rest C.unread C.bound sources.old.items)) }
-    ensures { IsMergePassed C.rest C.unread C.bound C.Comes sources.old.items sources.new.items }
+    ensures passed { IsMergePassed C.rest C.unread C.bound C.Comes sources.old.items sources.new.items }
+    ensures tree { IsTournament (sources_of C.rest C.unread C.bound sources.new.items) 0 (length sources.new.items) tree.new }
 {
-    pass_others(sources, first);
+    let first = tree.winner();
+    tree.pass_others(sources, first);
     sources[first].advance();
+    tree.replay(sources, first);
 }

@@ -1,9 +1,9 @@
 //! Which source is taken first.
 
-ghost use Rattle.std.specs.Prelude.{◌≡◌, ℕ, ◌<◌, length, slice_index_or, MatchOption};
+ghost use Rattle.std.specs.Prelude.{◌≡◌, slice_index_or};
 ghost use Rattle.dfs_record.specs.Records.{IsHead};
 ghost use Rattle.dfs_merge.specs.Sources.{sources as sources_of, ended};
-ghost use Rattle.dfs_merge.specs.Rank.{rank_at, rank_cmp, head_cmp, class_of_head, have_one_key, IsFirst, IsStep, OthersPassed};
+ghost use Rattle.dfs_merge.specs.Rank.{rank_at, rank_cmp, head_cmp, class_of_head, have_one_key, better_of, IsStep};
 
 use dfs_record::{Head, Records};
 use std::cmp::Ordering;
@@ -48,7 +48,7 @@ fn compare<C: Records>(sources: &[C], a: usize, b: usize) -> Ordering
 }
 
 /// Whether two sources have one first key.
-fn has_key_of<C: Records>(sources: &[C], a: usize, b: usize) -> bool
+pub(crate) fn has_key_of<C: Records>(sources: &[C], a: usize, b: usize) -> bool
     ensures { result ≡ have_one_key (slice_index_or (sources_of C.rest C.unread C.bound sources.now) a ended).rest (slice_index_or (sources_of C.rest C.unread C.bound sources.now) b ended).rest }
 {
     let Head::Item(a) = head_at(sources, a) else {
@@ -60,25 +60,15 @@ fn has_key_of<C: Records>(sources: &[C], a: usize, b: usize) -> bool
     a.key.order(b.key) == Ordering::Equal
 }
 
-/// The source that is taken first.
-pub(crate) fn first_of<C: Records>(sources: &[C]) -> Option<usize>
-    ensures { MatchOption result (length sources.now ≡ 0) (IsFirst (sources_of C.rest C.unread C.bound sources.now)) }
+/// Of two sources the one that stands first.
+pub(crate) fn better<C: Records>(sources: &[C], a: usize, b: usize) -> usize
+    ensures { result ≡ better_of (sources_of C.rest C.unread C.bound sources.now) a b }
 {
-    if sources.is_empty() {
-        return None;
-    }
-    let mut first = 0;
-    for index in 0..sources.len() {
-        if compare(sources, index, first).is_lt() {
-            first = index;
-        }
-    }
-    Some(first)
+    if compare(sources, b, a).is_lt() { b } else { a }
 }
 
 /// Passes the first record of a source that is not the first one and has its key.
-fn pass_same<C: Records>(sources: &mut Vec<C>, index: usize, first: usize)
-    requires { index < length sources.old.items }
+pub(crate) fn pass_same<C: Records>(sources: &mut Vec<C>, index: usize, first: usize)
     ensures { IsStep C.rest C.unread C.bound C.Comes index first sources.old.items sources.new.items }
 {
     if index == first {
@@ -88,14 +78,4 @@ fn pass_same<C: Records>(sources: &mut Vec<C>, index: usize, first: usize)
         return;
     }
     sources[index].advance();
-}
-
-/// Takes the first key off all sources but the first one.
-pub(crate) fn pass_others<C: Records>(sources: &mut Vec<C>, first: usize)
-    requires { first < length sources.old.items }
-    ensures { OthersPassed C.rest C.unread C.bound C.Comes first (length sources.old.items) sources.old.items sources.new.items }
-{
-    for index in 0..sources.len() {
-        pass_same(sources, index, first);
-    }
 }

@@ -52,13 +52,18 @@ fn shown<C: Records + Drop>(alloc: Global, mut source: C) -> Result<Vec<(u8, u64
 #[test]
 fn the_last_source_wins(rt: HostRuntime) -> Result<(), Fail> {
     let alloc = rt.alloc();
-    let old = [record(alloc, b'b', Some(1))?, record(alloc, b'd', Some(1))?];
-    let new = [record(alloc, b'a', Some(2))?, record(alloc, b'd', None)?];
+    let first = [record(alloc, b'a', Some(1))?, record(alloc, b'e', Some(1))?];
+    let second = [record(alloc, b'a', Some(2))?, record(alloc, b'c', Some(2))?];
+    let third = [record(alloc, b'e', Some(3))?];
+    let last = [record(alloc, b'a', None)?, record(alloc, b'd', Some(5))?];
     let mut sources = Vec::new(alloc);
-    sources.push(SliceRecords::new(&old))?;
-    sources.push(SliceRecords::new(&new))?;
+    sources.push(SliceRecords::new(&first))?;
+    sources.push(SliceRecords::new(&second))?;
+    sources.push(SliceRecords::new(&third))?;
+    sources.push(SliceRecords::new(&[]))?;
+    sources.push(SliceRecords::new(&last))?;
     let merge = Merge::new(alloc, sources)?;
-    let expected = [(b'a', 2), (b'b', 1), (b'd', 0)];
+    let expected = [(b'a', 0), (b'c', 2), (b'd', 5), (b'e', 3)];
     assert_eq!(rt; shown(alloc, merge)?.as_slice(), expected.as_slice());
     Ok(())
 }

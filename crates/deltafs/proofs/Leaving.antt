@@ -9,7 +9,7 @@ use Rattle.dfs_host.proofs.Files.{left_when_settled}
 use Rattle.dfs_host.proofs.Moments.{started, goes_on, widened}
 use Rattle.dfs_registry.specs.declared.listed.Listed.{Listed}
 use Rattle.dfs_registry.proofs.Standing.{standing_images}
-use Rattle.dfs_change.specs.Log.{log_changes}
+use Rattle.dfs_change.specs.Meant.{log_meaning}
 use Rattle.dfs_reply.specs.Text.{text}
 use Rattle.dfs_script.specs.Collected.{front}
 use Rattle.dfs_script.specs.Script.{lines_of, ended_lines}
@@ -38,7 +38,7 @@ both {P} {Q} {old} {new} p q = record {
 left_same : (host : HostState) (image : Image) (ls : List Listed) → IsImage host.disk image → AllByRecursion (LogIsSettled host) ls → publications_of image.files ls ≡ publications_of (bytes_of host) ls
 left_same host image [] is settled = refl
 left_same host image (l ∷ ls) is settled =
-    λ i. record { name = l.name; job = l.job; change = log_changes (left_when_settled settled.0 (image.files l.job) (is.files l.job) i) l } ∷ left_same host image ls is settled.1 i
+    λ i. record { name = l.name; job = l.job; change = log_meaning (left_when_settled settled.0 (image.files l.job) (is.files l.job) i) l } ∷ left_same host image ls is settled.1 i
 
 -- an image of a host on which a session stands
 image_holds : (host : HostState) (session : LiveSession) (s : Session) (image : Image) → IsTrue host.tells → IsSound host session → Stands host session s → IsImage host.disk image → Holds s.registry image

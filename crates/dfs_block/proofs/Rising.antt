@@ -65,10 +65,10 @@ below_all_of : (key : Key) (r : Record) (rs : List Record) → IsBelow key r.key
 below_all_of key r rs lt h =
     both (is_lt (key_cmp key r.key)) (below_all key_cmp key (entries rs)) (is_less (key_cmp key r.key) lt) (below_rest key r rs lt (rise_first r rs h))
 
-rise_before : (r s : Record) (rs : List Record) → IsBelow r.key s.key → KeysRise (s ∷ rs) → KeysRise (r ∷ s ∷ rs)
+pub rise_before : (r s : Record) (rs : List Record) → IsBelow r.key s.key → KeysRise (s ∷ rs) → KeysRise (r ∷ s ∷ rs)
 rise_before r s rs lt h = both (below_all key_cmp r.key (entries (s ∷ rs))) (is_sorted key_cmp (entries (s ∷ rs))) (below_all_of r.key s rs lt h) h
 
-below_second : (r s : Record) (rs : List Record) → KeysRise (r ∷ s ∷ rs) → IsBelow r.key s.key
+pub below_second : (r s : Record) (rs : List Record) → KeysRise (r ∷ s ∷ rs) → IsBelow r.key s.key
 below_second r s rs h = less (key_cmp r.key s.key) (first (is_lt (key_cmp r.key s.key)) (below_all key_cmp r.key (entries rs)) (rise_first r (s ∷ rs) h))
 
 -- one more behind the last

@@ -1,7 +1,10 @@
 pub mod Maps
-pub mod Spelled
-pub mod Logs
-pub mod Orders
-pub mod Parsing
-pub mod Spelling
+pub mod Bools
 pub mod Fits
+pub mod Ended
+pub mod Tests
+pub mod Meant
+mod Rows
+pub mod Opened
+pub mod Writings
+pub mod Gathered

@@ -2,7 +2,7 @@
 use Rattle.std.proofs.Common.{◌≡◌, Bool, true, false, cond, T, List, [], ◌∷◌, ◌++◌, ◌&&◌, refl, sym, ap, subst, ◌∙◌}
 use Rattle.std.specs.Prelude.{Option, Some, map, fold}
 use Rattle.std.specs.BTreeMap.{is_at}
-use Rattle.std.specs.List.{AllByRecursion, list_all}
+use Rattle.std.specs.List.{AllByRecursion}
 use Rattle.std.specs.List.Sorted.{IsStrictlySortedBy}
 use Rattle.std.specs.Map.{keys_of, lookup}
 use Rattle.std.specs.Cmp.{eq_by_cmp_equiv}
@@ -15,7 +15,6 @@ use Rattle.dfs_record.specs.declared.Value.{Value}
 use Rattle.dfs_record.specs.Key.{key_cmp, keys_total}
 use Rattle.dfs_record.specs.KeyMap.{get, insert, from_entries}
 use Rattle.dfs_record.specs.Delta.{Delta, records_of, with_record}
-use Rattle.dfs_change.specs.Identities.{is_below}
 use Rattle.dfs_record.proofs.Maps.{get-insert, get-from_entries, same_map}
 
 abbrev value_at : List (Key × Value) → Key → Option Value
@@ -70,10 +69,6 @@ unfolding IsStrictlySortedBy
 first_taken e es fs is sorted =
     let all : IsStrictlySortedBy key_cmp (keys_of (e ∷ fs)) = subst (λ l. IsStrictlySortedBy key_cmp (keys_of l)) is sorted in
     same_records es sorted ∙ ap (map record_at) is ∙ ap (λ l. record_at e ∷ l) (sym (same_records fs all.1))
-
--- a test of its keys is one of the entries
-pub below_entries : (es : List (Key × Value)) → IsStrictlySortedBy key_cmp (keys_of es) → (key : Key) → is_below (from_entries es) key ≡ list_all (λ e. is_lt (key_cmp e.0 key)) es
-below_entries es h key = ap (list_all (λ e. is_lt (key_cmp e.0 key))) (same_entries es h)
 
 -- one record more
 pub delta-more : (rs : List Record) (d : Delta) (r : Record) → fold with_record d (rs ++ r ∷ []) ≡ with_record (fold with_record d rs) r

@@ -1,6 +1,8 @@
 pub mod Identities
 pub mod Entries
-pub mod Log
-pub mod Meaning
+pub mod Whole
+pub mod Written
+pub mod Tests
+pub mod Meant
 pub mod Sealing
-pub mod Reads
+pub mod Gathered

@@ -1,13 +1,8 @@
-ghost use Rattle.std.specs.Prelude.{◌≡◌, ◌∷◌, IfNone, IfOk, OnOk, OnErr, MatchOption, IsTrue};
+ghost use Rattle.std.specs.Prelude.{◌≡◌, ◌∷◌, IfNone, IfOk, OnOk, OnErr, MatchOption};
 ghost use Rattle.dfs_record.specs.Delta.{with_record, records_of};
-ghost use Rattle.std.specs.List.{AllByRecursion};
 ghost use Rattle.dfs_record.specs.KeyMap.{empty, len};
-ghost use Rattle.dfs_record.specs.Lend.{key_of};
-ghost use Rattle.dfs_record.specs.Record.{IsRecord};
-ghost use Rattle.dfs_change.specs.Identities.{is_below};
-ghost use Rattle.dfs_change.specs.Log.{are_bytes, spellings};
 
-use dfs_record::{Key, KeyRef, NoMemory, Record, RecordRef, Value, encode};
+use dfs_record::{Key, NoMemory, Record, Value};
 use std::alloc::Global;
 use std::collections::BTreeMap;
 use std::marker::Model;
@@ -15,7 +10,7 @@ use std::marker::Model;
 /// A change set in memory, seen as the finite map from keys to values.
 #[derive(Drop)]
 pub struct Changes {
-    entries: BTreeMap<Key, Value>,
+    pub(crate) entries: BTreeMap<Key, Value>,
 }
 
 impl Model for Changes {
@@ -58,36 +53,6 @@ impl Changes {
         }
     }
 
-    // Whether its keys are all below this one.
-    pub(crate) fn is_below(&self, key: KeyRef<'_>) -> bool
-        ensures { result ≡ is_below self.now (key_of key.entry) }
-    {
-        // A map's length tells that its keys rise.
-        let _len = self.entries.len();
-        match self.entries.last_key_value() {
-            Some((last, _)) => last.lend().order(key).is_lt(),
-            None => true,
-        }
-    }
-
-    // The spellings of its records, in rising order of their keys.
-    pub(crate) fn spell(&self, alloc: Global) -> Result<Vec<u8>, NoMemory>
-        requires { AllByRecursion IsRecord (records_of self.now) }
-        ensures spelled { IfOk result (λ bytes. bytes.items ≡ spellings self.now) }
-        ensures fit { IfOk result (λ bytes. IsTrue (are_bytes bytes.items)) }
-    {
-        let mut bytes = Vec::new(alloc);
-        for (key, value) in &self.entries {
-            let rec = RecordRef {
-                key: key.lend(),
-                value: value.lend(),
-            };
-            encode(rec, &mut bytes)?;
-        }
-        tell_bytes(&bytes);
-        Ok(bytes)
-    }
-
     /// Takes off the record with the least key.
     pub fn pop_first(&mut self) -> Option<Record>
         ensures first { MatchOption result (self.old ≡ empty) (λ first. records_of self.old ≡ first ∷ records_of self.new) }
@@ -111,11 +76,4 @@ impl Changes {
         }
         Ok(records)
     }
-}
-
-// It does nothing: its contract tells a proof that a slice of `u8` has numbers below 256.
-fn tell_bytes(bytes: &[u8])
-    ensures { IsTrue (are_bytes bytes.now) }
-{
-    let _bytes = bytes;
 }

@@ -1,17 +1,24 @@
 //! Change sets of jobs, in memory and in their logs.
 //!
-//! `Changes` is seen as the finite map from keys to values. `write_changes` appends its records to a log in the order of their
-//! keys and seals it; `read_changes` answers what a registry's entry stands for in its job's log, and `None` where the log is
-//! damaged. Both speak of `log_changes` (specs/Log), which a law holds equal to the plain relation `IsLogOf` (specs/Meaning).
+//! `Changes` is a change set in memory, seen as the finite map from keys to values. `write_changes` writes it to a log as a run, and
+//! ends the log by `ChangeWriter::finish`. `Change::open` opens the log of a registry's entry and checks all of it; `read_changes`
+//! gathers its change set, and answers `None` where the log is damaged.
+//!
+//! When a log is whole, and which change set it has, is the relation `HasChanges` (specs/Whole); `log_meaning` (specs/Meant) is the
+//! same as a function of the file's bytes, and laws hold the two equal.
 #![tactic(auto)]
 
+mod change;
 mod changes;
+mod find;
 mod laws;
-mod parser;
 mod reader;
+mod sealing;
 mod writer;
 
+pub use change::Change;
 pub use changes::Changes;
-pub use laws::{logs_have_one_meaning, nothing_behind_counts, one_record_more};
+pub use laws::{logs_are_whole_or_damaged, nothing_behind_means, one_record_more};
 pub use reader::read_changes;
-pub use writer::{Sealed, write_changes};
+pub use sealing::{ChangeWriter, Sealed};
+pub use writer::write_changes;

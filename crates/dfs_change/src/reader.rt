@@ -1,17 +1,23 @@
-ghost use Rattle.std.specs.Prelude.{◌≡◌, ◌≤◌, ◌+◌, ◌&&◌, nat_le, ℕ, length, take, IsTrue, IsErrOf, IfOk, IfSome};
-ghost use Rattle.std.specs.Str.{bytes_eq};
-ghost use Rattle.dfs_host.specs.Counts.{RoseBy};
-ghost use Rattle.dfs_host.specs.Fault.{HasFaultCause};
-ghost use Rattle.dfs_host.specs.Host.{Told, bytes_of, OnlyReads, HasDiskCause};
-ghost use Rattle.dfs_log.specs.Logs.{log_header};
-ghost use Rattle.dfs_change.specs.Reads.{AtMostBy};
-ghost use Rattle.dfs_change.specs.Identities.{AreFit};
-ghost use Rattle.dfs_change.specs.Log.{has_extent, log_changes};
+//! Change sets that are read from the tables of their logs.
 
-use crate::Changes;
-use crate::parser::parse;
-use dfs_host::{Failed, Fault, Host};
+ghost use Rattle.std.specs.Prelude.{◌≡◌, ℕ, List, Some, IfOk, IfSome, IsErrOf};
+ghost use Rattle.std.specs.List.{AllByRecursion};
+ghost use Rattle.dfs_host.specs.Fault.{HasFaultCause};
+ghost use Rattle.dfs_host.specs.Host.{Told, bytes_of, OnlyReads};
+ghost use Rattle.dfs_record.specs.Delta.{delta};
+ghost use Rattle.dfs_table.specs.Identities.{IsWithin};
+ghost use Rattle.dfs_table.specs.Stored.{IsTableOf, run_records, table_records};
+ghost use Rattle.dfs_change.specs.Gathered.{Adds, StayFit};
+ghost use Rattle.dfs_change.specs.Identities.{AreFit};
+ghost use Rattle.dfs_change.specs.Meant.{log_meaning};
+ghost use Rattle.dfs_change.specs.Whole.{IsLogged};
+
+use crate::{Change, Changes};
+use dfs_block::Block;
+use dfs_host::{Fault, Host};
+use dfs_record::{Head, NoMemory, Records};
 use dfs_registry::Listed;
+use dfs_table::{OpenFault, Table, Tables, is_within};
 use std::alloc::Global;
 
 /// The change set of an entry in its job's log, and `None` where the log is damaged.
@@ -20,95 +26,80 @@ pub fn read_changes<H: Host>(
     host: &mut H,
     listed: &Listed,
 ) -> Result<Option<Changes>, Fault>
-    ensures answer { Told (H.state host.old) (IfOk result (λ found. found ≡ log_changes (bytes_of (H.state host.old) listed.now.job) listed.now)) }
+    ensures answer { Told (H.state host.old) (IfOk result (λ found. found ≡ log_meaning (bytes_of (H.state host.old) listed.now.job) listed.now)) }
     // Its records are valid, and their identities are of jobs up to the entry's.
     ensures fit { IfOk result (λ found. IfSome found (AreFit listed.now.job)) }
 
-    // Memory is asked for only where the file has the extent.
-    ensures memory { Told (H.state host.old) (IsErrOf result Fault.NoMemory → IsTrue (has_extent (bytes_of (H.state host.old) listed.now.job) listed.now)) }
-    ensures never_full { IsErrOf result Fault.LogFull → ⊥ }
-    ensures never_changed { (file at : ℕ) → IsErrOf result (Fault.Changed file at) → ⊥ }
-
-    ensures only { OnlyReads (H.state host.old) (H.state host.new) }
-    ensures cause { HasFaultCause (H.state host.old) (H.state host.new) result }
-    // The header and the extent are read once each.
-    ensures reads { AtMostBy 2 (H.state host.old).reads (H.state host.new).reads }
-{
-    match finds_extent(host, listed) {
-        Ok(true) => read_extent(alloc, host, listed),
-        Ok(false) => Ok(None),
-        Err(_) => Err(Fault::Disk),
-    }
-}
-
-// The first bytes of a job's log.
-fn front_of(job: u32) -> [u8; 12]
-    ensures { result ≡ log_header job }
-{
-    let mut front = *b"DFSLOG01\0\0\0\0";
-    front[8..].copy_from_slice(&job.to_be_bytes());
-    front
-}
-
-// Whether a file of at least 12 bytes is the log of its job.
-fn is_log<H: Host>(host: &mut H, job: u32) -> Result<bool, Failed>
-    requires { Told (H.state host.old) (12 ≤ length (bytes_of (H.state host.old) job)) }
-    ensures answer { Told (H.state host.old) (IfOk result (λ is. is ≡ bytes_eq (take 12 (bytes_of (H.state host.old) job)) (log_header job))) }
-    ensures only { OnlyReads (H.state host.old) (H.state host.new) }
-    ensures cause { HasDiskCause (H.state host.old) (H.state host.new) result }
-    ensures reads { RoseBy 1 (H.state host.old).reads (H.state host.new).reads }
-{
-    let mut front = [0u8; 12];
-    match host.read_at(job, 0, &mut front) {
-        Ok(_) => Ok(front.as_slice() == front_of(job).as_slice()),
-        Err(_) => Err(Failed),
-    }
-}
-
-// Whether the file of the entry's job is its log and has the extent.
-fn finds_extent<H: Host>(host: &mut H, listed: &Listed) -> Result<bool, Failed>
-    ensures answer { Told (H.state host.old) (IfOk result (λ is. is ≡ has_extent (bytes_of (H.state host.old) listed.now.job) listed.now)) }
-    ensures only { OnlyReads (H.state host.old) (H.state host.new) }
-    ensures cause { HasDiskCause (H.state host.old) (H.state host.new) result }
-    ensures reads { AtMostBy 1 (H.state host.old).reads (H.state host.new).reads }
-{
-    match host.len(listed.job) {
-        Ok(len) if holds_extent(len, listed) => is_log(host, listed.job),
-        Ok(_) => Ok(false),
-        Err(_) => Err(Failed),
-    }
-}
-
-// Whether a file of so many bytes has the extent behind a header.
-fn holds_extent(len: u64, listed: &Listed) -> bool
-    ensures { result ≡ (nat_le 12 listed.now.at && nat_le (listed.now.at + listed.now.len) len) }
-{
-    12 <= listed.at && listed.at <= len && u64::from(listed.len) <= len - listed.at
-}
-
-// The change set in the extent.
-fn read_extent<H: Host>(
-    alloc: Global,
-    host: &mut H,
-    listed: &Listed,
-) -> Result<Option<Changes>, Fault>
-    requires { Told (H.state host.old) (IsTrue (has_extent (bytes_of (H.state host.old) listed.now.job) listed.now)) }
-    ensures answer { Told (H.state host.old) (IfOk result (λ found. found ≡ log_changes (bytes_of (H.state host.old) listed.now.job) listed.now)) }
-    ensures fit { IfOk result (λ found. IfSome found (AreFit listed.now.job)) }
+    // Memory is asked for only where the file is a log and has the manifest's place.
+    ensures memory { Told (H.state host.old) (IsErrOf result Fault.NoMemory → IsLogged (bytes_of (H.state host.old) listed.now.job) listed.now) }
     ensures never_full { IsErrOf result Fault.LogFull → ⊥ }
     ensures never_changed { (file at : ℕ) → IsErrOf result (Fault.Changed file at) → ⊥ }
     ensures only { OnlyReads (H.state host.old) (H.state host.new) }
     ensures cause { HasFaultCause (H.state host.old) (H.state host.new) result }
-    ensures reads { AtMostBy 1 (H.state host.old).reads (H.state host.new).reads }
 {
-    let Ok(mut bytes) = Vec::from_elem(alloc, 0, listed.len as usize) else {
-        return Err(Fault::NoMemory);
-    };
-    match host.read_at(listed.job, listed.at, &mut bytes) {
-        Ok(count) => match parse(alloc, listed.job, listed.count, &bytes[..count]) {
+    match Change::open(alloc, host, listed) {
+        Ok(change) => match gather(alloc, listed.job, &change.run.tables) {
             Ok(found) => Ok(found),
             Err(_) => Err(Fault::NoMemory),
         },
-        Err(_) => Err(Fault::Disk),
+        Err(OpenFault::Malformed) => Ok(None),
+        Err(OpenFault::Fault(fault)) => Err(fault),
     }
+}
+
+// The change set of the tables, whose identities are of jobs up to this one. Each record is checked for that once more, so that it
+// holds on every host.
+fn gather(alloc: Global, job: u32, tables: &Tables) -> Result<Option<Changes>, NoMemory>
+    ensures whole { (file : List ℕ) → AllByRecursion (IsTableOf file) tables.now → AllByRecursion (IsWithin job) (run_records file tables.now) → IfOk result (λ found. found ≡ Some (delta (run_records file tables.now))) }
+    ensures fit { IfOk result (λ found. IfSome found (AreFit job)) }
+{
+    let mut changes = Changes::new(alloc);
+    for index in 0..tables.len() {
+        if !add_table(alloc, job, tables.get(index), &mut changes)? {
+            return Ok(None);
+        }
+    }
+    Ok(Some(changes))
+}
+
+// Puts the records of the table, and answers false at the first one of a later job.
+fn add_table(
+    alloc: Global,
+    job: u32,
+    table: &Table,
+    changes: &mut Changes,
+) -> Result<bool, NoMemory>
+    ensures added { (file : List ℕ) → IsTableOf file table.now → IfOk result (Adds job (table_records file table.now) changes.old changes.new) }
+    ensures fit { StayFit job changes.old changes.new }
+{
+    for index in 0..table.fences.len() {
+        let Some(block) = table.block(index) else {
+            return Ok(false);
+        };
+        if !add_block(alloc, job, &block, changes)? {
+            return Ok(false);
+        }
+    }
+    Ok(true)
+}
+
+// Puts the records of the block, and answers false at the first one of a later job.
+fn add_block(
+    alloc: Global,
+    job: u32,
+    block: &Block<'_>,
+    changes: &mut Changes,
+) -> Result<bool, NoMemory>
+    ensures added { IfOk result (Adds job block.now changes.old changes.new) }
+    ensures fit { StayFit job changes.old changes.new }
+{
+    let mut records = block.records();
+    while let Head::Item(rec) = records.head() {
+        if !is_within(job, rec) {
+            return Ok(false);
+        }
+        changes.put(rec.to_record(alloc)?)?;
+        records.advance();
+    }
+    Ok(true)
 }

@@ -1,28 +1,35 @@
-ghost use Rattle.std.specs.Prelude.{◌≡◌, ◌≤◌, ◌<◌, ◌+◌, ◌++◌, ◌⊎◌, ℕ, List, Some, true, length, take, IsTrue, IsFalse, IsErrOf, IfOk, OnOk};
+//! Change sets that are written to logs, as runs with a manifest.
+
+ghost use Rattle.std.specs.Prelude.{◌≡◌, ◌≤◌, ◌<◌, ◌+◌, ◌*◌, ◌↔◌, ℕ, List, Some, length, take, IsFalse, IsErrOf, IfOk, OnOk};
+ghost use Rattle.std.specs.List.{AllByRecursion};
 ghost use Rattle.dfs_host.specs.Disk.{IsSettled};
 ghost use Rattle.dfs_host.specs.Fault.{HasFaultCause};
 ghost use Rattle.dfs_host.specs.Host.{Told, bytes_of, Only};
+ghost use Rattle.dfs_record.specs.Delta.{records_of};
 ghost use Rattle.dfs_record.specs.KeyMap.{len};
-ghost use Rattle.dfs_log.specs.Logs.{LogStands};
+ghost use Rattle.dfs_record.specs.Record.{IsRecord};
+ghost use Rattle.dfs_log.specs.Logs.{IsLog, LogStands};
+ghost use Rattle.dfs_table.specs.Appending.{Appends};
+ghost use Rattle.dfs_table.specs.Counts.{count_of};
+ghost use Rattle.dfs_table.specs.Stored.{IsTableOf, run_records};
+ghost use Rattle.dfs_table.specs.Tables.{all_fences};
+ghost use Rattle.dfs_table.specs.Writer.{AreIn};
 ghost use Rattle.dfs_change.specs.Identities.{AreFit};
-ghost use Rattle.dfs_change.specs.Log.{log_changes, spellings};
+ghost use Rattle.dfs_change.specs.Meant.{log_meaning};
 ghost use Rattle.dfs_change.specs.Sealing.{entry_of};
 
 use crate::Changes;
+use crate::sealing::{ChangeWriter, Sealed};
 use dfs_host::{Fault, Host};
 use dfs_log::LogWriter;
+use dfs_record::RecordRef;
+use dfs_table::{Run, TableWriter};
 use std::alloc::Global;
 
-/// Where a change set stands in a log: its place and length in bytes, and how many records it has.
-#[derive(Clone, Copy, Debug, PartialEq, Eq)]
-pub struct Sealed {
-    pub at: u64,
-    pub len: u32,
-    pub count: u64,
-}
+/// The most tables of a run.
+const MOST_TABLES: u32 = 131_072;
 
-/// Appends the records of the change set to the log, in one piece, and settles the log. `LogFull` writes nothing, and after
-/// `NoMemory` host and log are as before.
+/// Writes the change set to the log as a run, appends the manifest, and settles the log.
 pub fn write_changes<H: Host>(
     alloc: Global,
     host: &mut H,
@@ -35,41 +42,75 @@ pub fn write_changes<H: Host>(
     requires few { len changes.now ≤ 1048576 }
 
     // The entry of what was sealed has the change set.
-    ensures log { Told (H.state host.old) (IfOk result (λ sealed. (name : List ℕ) → log_changes (bytes_of (H.state host.new) log.old.file) (entry_of name log.old.file sealed) ≡ Some changes.now)) }
-    ensures appended { Told (H.state host.old) (OnOk result (bytes_of (H.state host.new) log.old.file ≡ bytes_of (H.state host.old) log.old.file ++ spellings changes.now)) }
+    ensures log { Told (H.state host.old) (IfOk result (λ sealed. (name : List ℕ) → log_meaning (bytes_of (H.state host.new) log.old.file) (entry_of name log.old.file sealed) ≡ Some changes.now)) }
     ensures settled { Told (H.state host.old) (OnOk result (IsSettled ((H.state host.new).disk.files log.old.file))) }
     ensures stands { Told (H.state host.old) (OnOk result (LogStands (H.state host.new) log.new)) }
-
-    ensures at { IfOk result (λ sealed. sealed.at ≡ log.old.len) }
-    ensures len { IfOk result (λ sealed. sealed.len ≡ length (spellings changes.now)) }
     ensures count { IfOk result (λ sealed. sealed.count ≡ len changes.now) }
-    ensures longer { OnOk result (log.new ≡ record log.old { len = log.old.len + length (spellings changes.now) }) }
 
-    // `LogFull` exactly where it would pass the limit, but for want of memory.
-    ensures full { IsErrOf result Fault.LogFull → log.old.limit < log.old.len + length (spellings changes.now) }
-    ensures over { log.old.limit < log.old.len + length (spellings changes.now) → IsErrOf result Fault.NoMemory ⊎ IsErrOf result Fault.LogFull }
-    ensures refused { IsErrOf result Fault.LogFull → (H.state host.new ≡ H.state host.old) × (log.new ≡ record log.old { spent = true; refused = length (spellings changes.now) }) }
-    ensures unchanged { IsErrOf result Fault.NoMemory → (H.state host.new ≡ H.state host.old) × (log.new ≡ log.old) }
-    ensures failed { IsErrOf result Fault.Disk → IsTrue log.new.spent }
-    ensures never_changed { (file at : ℕ) → IsErrOf result (Fault.Changed file at) → ⊥ }
-
-    // What stood before stays, also where a device call failed.
+    // What the log had stays, also where a device call failed.
     ensures before { Told (H.state host.old) (take log.old.len (bytes_of (H.state host.new) log.old.file) ≡ bytes_of (H.state host.old) log.old.file) }
-    ensures none_refused { (IsErrOf result Fault.LogFull → ⊥) → log.new.refused ≡ 0 }
+
+    // `LogFull` exactly where the log refused a piece.
+    ensures full { IsErrOf result Fault.LogFull ↔ (0 < log.new.refused) }
+    ensures over { 0 < log.new.refused → log.new.limit < log.new.len + log.new.refused }
+    // A record costs at most 1,100 bytes, and the manifest 4 and at most 16 for each of at most 131,072 tables.
+    ensures growth { log.new.len + log.new.refused ≤ log.old.len + 1100 * len changes.now + 2097156 }
+    ensures never_changed { (file at : ℕ) → IsErrOf result (Fault.Changed file at) → ⊥ }
     ensures only { Only log.old.file (H.state host.old) (H.state host.new) }
     ensures cause { HasFaultCause (H.state host.old) (H.state host.new) result }
     ensures reads { (H.state host.new).reads ≡ (H.state host.old).reads }
     ensures same { (log.new.file ≡ log.old.file) × (log.new.limit ≡ log.old.limit) }
 {
-    let at = log.len();
-    let Ok(bytes) = changes.spell(alloc) else {
+    let run = write_run(alloc, host, log, changes)?;
+    let sealed = ChangeWriter::finish(alloc, host, log, &run)?;
+    Ok(sealed)
+}
+
+// Writes the records of the change set to the log, in the order of their keys.
+fn write_run<H: Host>(
+    alloc: Global,
+    host: &mut H,
+    log: &mut LogWriter,
+    changes: &Changes,
+) -> Result<Run, Fault>
+    requires live { IsFalse log.old.spent }
+    requires stands { Told (H.state host.old) (LogStands (H.state host.old) log.old) }
+    requires valid { AllByRecursion IsRecord (records_of changes.now) }
+    requires few { len changes.now ≤ 1048576 }
+
+    ensures stored { Told (H.state host.old) (IfOk result (λ run. AllByRecursion (IsTableOf (bytes_of (H.state host.new) log.old.file)) run.tables)) }
+    ensures records { Told (H.state host.old) (IfOk result (λ run. run_records (bytes_of (H.state host.new) log.old.file) run.tables ≡ records_of changes.now)) }
+    ensures count { IfOk result (λ run. count_of (all_fences run.tables) ≡ len changes.now) }
+    ensures file { IfOk result (λ run. AreIn log.old.file run.tables) }
+    ensures few { IfOk result (λ run. length run.tables ≤ 131072) }
+    ensures log { Told (H.state host.old) (OnOk result (LogStands (H.state host.new) log.new)) }
+    ensures live { OnOk result (IsFalse log.new.spent) }
+    ensures sound { OnOk result (IsLog log.new) }
+    ensures full { IsErrOf result Fault.LogFull ↔ (0 < log.new.refused) }
+    ensures growth { log.new.len + log.new.refused ≤ log.old.len + 1100 * len changes.now }
+    ensures never_changed { (file at : ℕ) → IsErrOf result (Fault.Changed file at) → ⊥ }
+    ensures left { Appends (H.state host.old) (H.state host.new) log.old log.new }
+    ensures cause { HasFaultCause (H.state host.old) (H.state host.new) result }
+{
+    tell_log(log);
+    let Ok(mut writer) = TableWriter::new(alloc, MOST_TABLES) else {
         return Err(Fault::NoMemory);
     };
-    log.append(host, &bytes)?;
-    log.seal(host)?;
-    Ok(Sealed {
-        at,
-        len: bytes.len() as u32,
-        count: changes.len(),
-    })
+    for (key, value) in &changes.entries {
+        let rec = RecordRef {
+            key: key.lend(),
+            value: value.lend(),
+        };
+        writer.push(host, log, rec)?;
+    }
+    let run = writer.finish(host, log)?;
+    tell_log(log);
+    Ok(run)
+}
+
+// It does nothing: its contract tells a proof what is so of every log.
+fn tell_log(log: &LogWriter)
+    ensures { IsLog log.now }
+{
+    let _len = log.len();
 }

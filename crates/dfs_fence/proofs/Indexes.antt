@@ -74,7 +74,7 @@ fence_length f has =
     let numbers = to_be_bytes w64 f.at ++ to_be_bytes w32 f.len ++ to_be_bytes w16 f.count in
     omega (arith, length-append (numbers ++ key_bytes f.first) (key_bytes f.last), length-append numbers (key_bytes f.first), key_length f.first has.first, key_length f.last has.last)
 
-fences_length : (fs : List Fence) → AllByRecursion IsFence fs → length (flat_map fence_bytes fs) ≤ 542 * length fs
+pub fences_length : (fs : List Fence) → AllByRecursion IsFence fs → length (flat_map fence_bytes fs) ≤ 542 * length fs
 fences_length [] all = omega arith
 fences_length (f ∷ fs) all = omega (arith, fence_length f all.0.fields, fences_length fs all.1, length-append (fence_bytes f) (flat_map fence_bytes fs))
 

@@ -24,7 +24,8 @@ use Rattle.dfs_ops.specs.declared.OpReply.{OpReply}
 use Rattle.dfs_ops.specs.Op.{Outcome, AreIds, outcome, ids_after}
 use Rattle.dfs_ops.specs.Within.{IsWithin, IsRecordWithin, IsValueWithin}
 use Rattle.dfs_ops.proofs.Bounds.{makes_within, leaves_within}
-use Rattle.dfs_change.specs.Identities.{FitsJob, AreFit, value_within}
+use Rattle.dfs_change.specs.Identities.{FitsJob, AreFit}
+use Rattle.dfs_table.specs.Identities.{is_value_within}
 use Rattle.dfs_change.proofs.Fits.{fit_with}
 use Rattle.dfs_session.specs.Own.{own_follows, with_records}
 use Rattle.dfs_session.specs.declared.job.Job.{Job as LiveJob}
@@ -37,7 +38,7 @@ pub own_after : {T : Type 0} (result : Result T Fault) (old new : Delta) (spent 
 own_after (Ok answer) old new spent later rs want went live same = (went live).1 ∙ ap (λ (l : List Record). with_records old l) same
 own_after (Err fault) old new spent later rs want went live same = tt
 
-value_fits : (ids : Ids) (v : Value) → IsValueWithin ids v → value_within ids.job v ≡ true
+value_fits : (ids : Ids) (v : Value) → IsValueWithin ids v → is_value_within ids.job v ≡ true
 value_fits ids Del within = refl
 value_fits ids (Put (Dir id mode time)) within = le-leb id.job ids.job within.job
 value_fits ids (Put (File mode time size reference)) within = refl
@@ -46,7 +47,7 @@ value_fits ids (Put (File mode time size reference)) within = refl
 pub within_fits : (ids : Ids) (r : Record) → IsRecordWithin ids r → FitsJob ids.job r
 within_fits ids r within = record {
   valid = within.valid;
-  within = and_from (nat_le r.key.parent.job ids.job) (value_within ids.job r.value) (le-leb r.key.parent.job ids.job within.parent.job) (value_fits ids r.value within.value);
+  within = and_from (nat_le r.key.parent.job ids.job) (is_value_within ids.job r.value) (le-leb r.key.parent.job ids.job within.parent.job) (value_fits ids r.value within.value);
 }
 
 pub all_fit : (job : ℕ) (d : Delta) (rs : List Record) → AreFit job d → AllByRecursion (FitsJob job) rs → AreFit job (with_records d rs)

@@ -1,7 +1,7 @@
 -- A publication: the changes are sealed in the job's log, the registry gets its entry, and the job ends.
-use Rattle.std.proofs.Common.{◌≡◌, ◌≢◌, ◌∙◌, inl, inr, ⊎_elim, ℕ, ◌+◌, ◌<◌, ◌≤◌, max, Bool, true, false, List, [], ◌∷◌, ◌++◌, Option, Some, Result, Ok, Err, length, refl, sym, ap, subst, arith}
+use Rattle.std.proofs.Common.{◌≡◌, ◌≢◌, ◌∙◌, inl, inr, ⊎_elim, ℕ, zero, suc, ◌+◌, ◌*◌, ◌<◌, ◌≤◌, max, Bool, true, false, List, [], ◌∷◌, ◌++◌, Option, Some, Result, Ok, Err, refl, sym, ap, subst, arith}
 use Rattle.std.proofs.lemmas.Bool.{or_from, ne_eqb, le-leb, and_from, lt-ltb}
-use Rattle.std.proofs.lemmas.List.{map-append, length-map}
+use Rattle.std.proofs.lemmas.List.{map-append}
 use Rattle.std.specs.Prelude.{IsTrue, IsFalse, nat_lt, ◌==◌, ◌||◌}
 use Rattle.std.specs.BTreeMap.{BTreeMap, is_at}
 use Rattle.std.specs.Global.{Vec}
@@ -16,7 +16,6 @@ use Rattle.dfs_host.proofs.Causes.{none_yet, cause_of_last}
 use Rattle.dfs_host.proofs.Files.{left_when_settled}
 use Rattle.dfs_host.proofs.Moments.{silent_only, silent_on, widened}
 use Rattle.dfs_log.specs.Logs.{LogState, LogStands}
-use Rattle.dfs_record.specs.Delta.{records_of}
 use Rattle.dfs_record.specs.KeyMap.{len}
 use Rattle.dfs_record.specs.Name.{is_between}
 use Rattle.dfs_registry.specs.declared.listed.Listed.{Listed}
@@ -26,9 +25,7 @@ use Rattle.dfs_registry.specs.Seen.{RegistryState}
 use Rattle.dfs_registry.specs.Standing.{RegistryStands}
 use Rattle.dfs_registry.proofs.Standing.{standing_list}
 use Rattle.dfs_change.specs.Identities.{AreFit}
-use Rattle.dfs_change.specs.Log.{log_changes, spellings}
-use Rattle.dfs_change.proofs.Spelled.{all_valid}
-use Rattle.dfs_change.proofs.Spelling.{records_short}
+use Rattle.dfs_change.specs.Meant.{log_meaning}
 use Rattle.dfs_ops.specs.declared.Ids.{Ids}
 use Rattle.dfs_reply.specs.declared.Reply.TheVariants.{Published as PublishedReply}
 use Rattle.dfs_reply.specs.Text.{text}
@@ -47,7 +44,7 @@ use Rattle.dfs_session.proofs.Changing.{Found, found_job}
 use Rattle.dfs_session.proofs.Faults.{unrefused, each_unrefused, sound_refused, not_true, full_by}
 use Rattle.dfs_session.proofs.Images.{own_images, images_on}
 use Rattle.dfs_session.proofs.Jobs.{Live, all_set, all_found, all_remove, any_set, apart_remove, removed_apart, zip_remove}
-use Rattle.dfs_session.proofs.Kept.{Keeps, only_keeps, log_stays, keep_listed, unlisted_apart, stands_kept}
+use Rattle.dfs_session.proofs.Kept.{Keeps, only_keeps, log_stays, registry_kept, keep_listed, unlisted_apart, stands_kept}
 use Rattle.dfs_session.proofs.Numbered.{HasFile, AreNumbered, registry_numbered}
 use Rattle.dfs_session.proofs.Selecting.{no_fault}
 use Rattle.dfs_session.proofs.Values.{same_publications, stands_value}
@@ -82,6 +79,10 @@ memory_not_changed file at is = subst IsNoMemory is tt
 pub handed_cause : {T U : Type 0} {before mid after : HostState} (fault : Fault) → NoFault before mid → HasFaultCause {T = T} mid after (Err fault) → HasFaultCause {T = U} before after (Err fault)
 handed_cause {T} {U} fault none cause =
     cause_of_last none cause (Err fault) (λ other is. ap Err (ap (fault_or {T = U}) is)) (λ is. ap Err (ap (fault_or {T = T}) is))
+
+pub none_unless : (n : ℕ) → (0 < n → ⊥) → n ≡ 0
+none_unless zero some = refl
+none_unless (suc n) some = absurd (some (omega arith))
 
 greatest_push : (ls : List Listed) (l : Listed) → greatest_job (ls ++ l ∷ []) ≡ max (greatest_job ls) l.job
 greatest_push [] l = omega arith
@@ -120,11 +121,8 @@ module _ (before mid : HostState) (session : LiveSession) (word : JobWord) (live
   pub in_range : IsTrue (is_between 1 4294967294 live.ids.job)
   in_range = and_from _ _ (le-leb 1 live.ids.job was_live.sound.ids.job) (le-leb live.ids.job 4294967294 (omega (arith, was_live.numbered, sound.memory.greatest)))
 
-  pub room : live.log.limit < live.log.len + length (spellings live.space.own) → session.settings.log_bytes < roomy
-  room over = omega (arith, over, was_live.limit, was_live.sound.header, own_few, records_short (records_of live.space.own) (all_valid live.log.file (records_of live.space.own) own_fit), length_records)
-    where
-      length_records : length (records_of live.space.own) ≡ len live.space.own
-      length_records = length-map live.space.own.entries (λ e. record { key = e.0; value = e.1 })
+  pub room : live.log.limit < live.log.len + 1100 * len live.space.own + 2097156 → session.settings.log_bytes < roomy
+  room over = omega (arith, over, was_live.limit, was_live.sound.header, own_few)
 
   module _ (only : Only live.log.file before mid) where
     file_is : live.log.file ≡ live.ids.job
@@ -138,6 +136,9 @@ module _ (before mid : HostState) (session : LiveSession) (word : JobWord) (live
 
     listed_kept : IsTrue before.tells → AllByRecursion (λ l. Keeps before mid l.job) (listed_in session)
     listed_kept tells = keep_listed before mid (listed_in session) live.ids.job (keeps tells) (unlisted_apart (listed_in session) live.ids.job was_live.unlisted)
+
+    pub registry_still : IsTrue mid.tells → RegistryStands mid session.registry
+    registry_still tells = let told = sym only.tells ∙ tells in registry_kept before mid session.registry (keeps told 0 no_root) (sound.registry told)
 
     pub sealed_value : (s : Session) → IsTrue before.tells → Stands before session s → value_on mid ≡ Some s.registry
     sealed_value s tells stands = value_kept before mid session s tells sound stands (keeps tells 0 no_root) (listed_kept tells)
@@ -160,7 +161,7 @@ module _ (before mid : HostState) (session : LiveSession) (word : JobWord) (live
 
       -- the log was not written
       pub unsealed_worked : {T : Type 0} (does : Session → Step) (fault : Fault) → HasFaultCause {T = T} before mid (Err fault)
-          → (fault ≡ LogFull → (live.log.limit < live.log.len + length (spellings live.space.own)) × (log.refused ≡ length (spellings live.space.own)))
+          → (fault ≡ LogFull → (live.log.limit < live.log.len + 1100 * len live.space.own + 2097156) × (0 < log.refused))
           → ((fault ≡ LogFull → ⊥) → log.refused ≡ 0) → ((file at : ℕ) → fault ≡ Changed file at → ⊥) → IsWorked does before mid session (record session { jobs = jobs }) (Err fault)
       unsealed_worked {T} does fault cause full none never = record {
         sound = tt;
@@ -183,7 +184,7 @@ module _ (before mid : HostState) (session : LiveSession) (word : JobWord) (live
           leaves (Changed file at) a b files same = same
 
           refused : fault ≡ LogFull → IsTrue (has_refused (record session { jobs = jobs }))
-          refused is = now_refused (omega (arith, (full is).0, (full is).1, was_live.sound.log.within))
+          refused is = now_refused (full is).1
 
           unless : (fault ≡ LogFull → ⊥) → IsTrue (has_refused (record session { jobs = jobs })) → ⊥
           unless other holds = not_true (has_refused (record session { jobs = jobs })) (still_unrefused (none other)) holds
@@ -199,7 +200,7 @@ module _ (before mid : HostState) (session : LiveSession) (word : JobWord) (live
 module _ (before mid after : HostState) (session : LiveSession) (word : JobWord) (live : LiveJob) (sound : IsSound before session) (found : live_in session word ≡ Some live)
     (sealing : Only live.log.file before mid) (listing : Only 0 mid after) (listed : Listed) (same_job : listed.job ≡ live.ids.job)
     (writing : IsTrue mid.tells → ChangesOnly 0 (HasOldOrNew (listed_in session) listed) mid after)
-    (changes : IsTrue before.tells → log_changes (bytes_of mid live.ids.job) listed ≡ Some live.space.own) (settled : IsTrue before.tells → IsSettled (mid.disk.files live.ids.job)) where
+    (changes : IsTrue before.tells → log_meaning (bytes_of mid live.ids.job) listed ≡ Some live.space.own) (settled : IsTrue before.tells → IsSettled (mid.disk.files live.ids.job)) where
   abbrev publishing : Session → Step
   publishing s = of_job s word (λ j. publishes_anew s word j listed.name)
 
@@ -225,7 +226,7 @@ module _ (before mid after : HostState) (session : LiveSession) (word : JobWord)
       let new : publication_of image.files listed ≡ publication_by f.plain listed.name = λ i. record {
         name = listed.name;
         job = (same_job ∙ sym (ap (λ (n : Ids). n.job) f.is.ids)) i;
-        change = (ap (λ (bytes : List ℕ). log_changes bytes listed) file ∙ changes tells ∙ ap Some f.is.own) i;
+        change = (ap (λ (bytes : List ℕ). log_meaning bytes listed) file ∙ changes tells ∙ ap Some f.is.own) i;
       } in
       ⊎_elim (λ is. inl (ap (value_read image.files) is ∙ ap Some old))
       (λ is. inr (ap (value_read image.files) is ∙ ap Some (map-append (publication_of image.files) (listed_in session) (listed ∷ []) ∙ (λ i. old i ++ new i ∷ [])) ∙ ap (λ (o : Option Job). Some (of_live o s (λ j. publishes_anew s word j listed.name)).session.registry) (sym f.found)))
@@ -332,7 +333,7 @@ module _ (before mid after : HostState) (session : LiveSession) (word : JobWord)
   new_kept : IsTrue before.tells → Keeps mid after listed.job
   new_kept tells = only_keeps listing (sealing.tells ∙ tells) listed.job (λ is. absurd (omega (arith, is, same_job, is_live.sound.ids.job)))
 
-  pub published_stands : (s : Session) (j : Job) → IsTrue before.tells → Stands before session s → IsJob live j → log_changes (bytes_of mid live.ids.job) listed ≡ Some live.space.own
+  pub published_stands : (s : Session) (j : Job) → IsTrue before.tells → Stands before session s → IsJob live j → log_meaning (bytes_of mid live.ids.job) listed ≡ Some live.space.own
       → IsSettled (mid.disk.files live.ids.job) → Stands after published_session (publishes_anew s word j listed.name).session
   published_stands s j tells stands is changes settled =
       let old = stands_kept before after session s (old_kept tells) stands in
@@ -340,7 +341,7 @@ module _ (before mid after : HostState) (session : LiveSession) (word : JobWord)
       let new : publication_by j listed.name ≡ publication_of (bytes_of after) listed = λ i. record {
         name = listed.name;
         job = (ap (λ (n : Ids). n.job) is.ids ∙ sym same_job) i;
-        change = (ap Some (sym is.own) ∙ sym changes ∙ ap (λ (bytes : List ℕ). log_changes bytes listed) (sym file)) i;
+        change = (ap Some (sym is.own) ∙ sym changes ∙ ap (λ (bytes : List ℕ). log_meaning bytes listed) (sym file)) i;
       } in
       record {
         registry = (λ i. old.registry i ++ new i ∷ []) ∙ sym (ap (publications_of (bytes_of after)) added ∙ map-append (publication_of (bytes_of after)) (listed_in session) (listed ∷ []));
@@ -352,7 +353,7 @@ module _ (before mid after : HostState) (session : LiveSession) (word : JobWord)
       }
 
   pub published_worked : (bytes : Vec ℕ) (count : ℕ) → NoFault before after → bytes.items ≡ text (PublishedReply listed.name count) → count ≡ len live.space.own
-      → (IsTrue before.tells → log_changes (bytes_of mid live.ids.job) listed ≡ Some live.space.own) → (IsTrue before.tells → IsSettled (mid.disk.files live.ids.job))
+      → (IsTrue before.tells → log_meaning (bytes_of mid live.ids.job) listed ≡ Some live.space.own) → (IsTrue before.tells → IsSettled (mid.disk.files live.ids.job))
       → IsWorked (λ s. of_job s word (λ j. publishes_anew s word j listed.name)) before after session published_session (Ok bytes)
   published_worked bytes count none says counted changes settled =
       let does : Session → Step = λ s. of_job s word (λ j. publishes_anew s word j listed.name) in

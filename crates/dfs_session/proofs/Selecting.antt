@@ -21,8 +21,9 @@ use Rattle.dfs_record.specs.Namespace.{Namespace, after_records, replay}
 use Rattle.dfs_record.proofs.Replays.{after-append}
 use Rattle.dfs_registry.specs.declared.listed.Listed.{Listed}
 use Rattle.dfs_registry.specs.Body.{greatest_job, has_name}
-use Rattle.dfs_change.specs.Identities.{FitsJob, AreFit, value_within}
-use Rattle.dfs_change.specs.Log.{log_changes}
+use Rattle.dfs_change.specs.Identities.{FitsJob, AreFit}
+use Rattle.dfs_table.specs.Identities.{is_value_within}
+use Rattle.dfs_change.specs.Meant.{log_meaning}
 use Rattle.dfs_ops.specs.Within.{IsIdWithin, IsRecordWithin, IsValueWithin, IsWithin}
 use Rattle.dfs_ops.proofs.Bounds.{stays_within}
 use Rattle.dfs_session.specs.declared.selection.Selection.TheVariants.{Entries, Damaged}
@@ -53,7 +54,7 @@ module _ (files : ℕ → List ℕ) (ls : List Listed) (names : List SnapName) (
       ap (filter_map (listed_as ls)) (parted names k name at) ∙ filter_map-append (listed_as ls) (take k names) (name ∷ drop (k + 1) names)
       ∙ ap (λ (o : Option Listed). chosen_in ls (take k names) ++ cons_option o (chosen_in ls (drop (k + 1) names))) listed
 
-  pub next_selected : (d : Delta) (m : Namespace) → log_changes (files l.job) l ≡ Some d → IsSelection files (chosen_in ls (take k names)) (Entries m)
+  pub next_selected : (d : Delta) (m : Namespace) → log_meaning (files l.job) l ≡ Some d → IsSelection files (chosen_in ls (take k names)) (Entries m)
       → IsSelection files (chosen_in ls (take (k + 1) names)) (Entries (after_records m (records_of d)))
   next_selected d m has so_far =
       let p : Publication = publication_of files l in
@@ -70,7 +71,7 @@ module _ (files : ℕ → List ℕ) (ls : List Listed) (names : List SnapName) (
           ∙ after-append empty (flat_map records_of basis) (records_of d)
           ∙ ap (λ (rs : List Record). after_records (after_records empty rs) (records_of d)) (sym (append-nil (flat_map records_of basis)))
 
-  pub first_damaged : (m : Namespace) → log_changes (files l.job) l ≡ None → IsSelection files (chosen_in ls (take k names)) (Entries m) → IsSelection files (chosen_in ls names) (Damaged l.name)
+  pub first_damaged : (m : Namespace) → log_meaning (files l.job) l ≡ None → IsSelection files (chosen_in ls (take k names)) (Entries m) → IsSelection files (chosen_in ls names) (Damaged l.name)
   first_damaged m has so_far =
       let p : Publication = publication_of files l in
       let rest : Registry = publications_of files (chosen_in ls (drop (k + 1) names)) in
@@ -102,7 +103,7 @@ found_greatest name (m ∷ ls) l is = by (has_name name m) (found_greatest name 
 id_within : (number : ℕ) (id : DirId) → id.job < number → IsIdWithin (first_ids number) id
 id_within number id below = record { job = omega (arith, below); counter = λ same. absurd (omega (arith, below, same)) }
 
-value_is_within : (number job : ℕ) (v : Value) → job < number → value_within job v ≡ true → IsValueWithin (first_ids number) v
+value_is_within : (number job : ℕ) (v : Value) → job < number → is_value_within job v ≡ true → IsValueWithin (first_ids number) v
 value_is_within number job Del below is = tt
 value_is_within number job (Put (Dir id mode time)) below is = id_within number id (omega (arith, below, leb-true id.job job is))
 value_is_within number job (Put (File mode time size reference)) below is = tt
@@ -110,7 +111,7 @@ value_is_within number job (Put (File mode time size reference)) below is = tt
 -- what a listed job may have is what a later one may have
 fits_within : (number job : ℕ) (r : Record) → job < number → FitsJob job r → IsRecordWithin (first_ids number) r
 fits_within number job r below fit =
-    let parts = and_parts (nat_le r.key.parent.job job) (value_within job r.value) fit.within in
+    let parts = and_parts (nat_le r.key.parent.job job) (is_value_within job r.value) fit.within in
     record {
       valid = fit.valid;
       parent = id_within number r.key.parent (omega (arith, below, leb-true r.key.parent.job job parts.0));

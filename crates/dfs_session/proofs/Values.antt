@@ -6,7 +6,7 @@ use Rattle.dfs_host.specs.Host.{HostState, bytes_of}
 use Rattle.dfs_registry.specs.declared.listed.Listed.{Listed}
 use Rattle.dfs_registry.specs.Reading.{Reading, listing, not_a_registry, damaged, registry}
 use Rattle.dfs_registry.proofs.Standing.{standing_list}
-use Rattle.dfs_change.specs.Log.{log_changes}
+use Rattle.dfs_change.specs.Meant.{log_meaning}
 use Rattle.dfs_session.specs.declared.session.Session.{Session as LiveSession}
 use Rattle.dfs_session.specs.Files.{publications_of, value_read, value_on}
 use Rattle.dfs_session.specs.Session.{Session}
@@ -17,7 +17,7 @@ use Rattle.dfs_session.proofs.Numbered.{HasFile, AreNumbered, registry_numbered}
 -- publications whose logs read the same are the same
 pub same_publications : (old new : ℕ → List ℕ) (ls : List Listed) → AllByRecursion (λ l. new l.job ≡ old l.job) ls → publications_of new ls ≡ publications_of old ls
 same_publications old new [] all = refl
-same_publications old new (l ∷ ls) all = λ i. record { name = l.name; job = l.job; change = log_changes (all.0 i) l } ∷ same_publications old new ls all.1 i
+same_publications old new (l ∷ ls) all = λ i. record { name = l.name; job = l.job; change = log_meaning (all.0 i) l } ∷ same_publications old new ls all.1 i
 
 pub listed_value : (host : HostState) (ls : List Listed) → registry (bytes_of host 0) ≡ listing ls → value_on host ≡ Some (publications_of (bytes_of host) ls)
 listed_value host ls is = ap (value_read (bytes_of host)) is

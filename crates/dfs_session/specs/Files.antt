@@ -3,12 +3,12 @@ use Rattle.std.specs.Prelude.{ℕ, List, map, Option, Some, None}
 use Rattle.dfs_host.specs.Host.{HostState, bytes_of}
 use Rattle.dfs_registry.specs.declared.listed.Listed.{Listed}
 use Rattle.dfs_registry.specs.Reading.{Reading, listing, not_a_registry, damaged, registry}
-use Rattle.dfs_change.specs.Log.{log_changes}
+use Rattle.dfs_change.specs.Meant.{log_meaning}
 use Rattle.dfs_session.specs.Session.{Publication, Registry}
 
 -- an entry of the registry, with what its job's log means
 abbrev pub publication_of : (ℕ → List ℕ) → Listed → Publication
-publication_of files l = record { name = l.name; job = l.job; change = log_changes (files l.job) l }
+publication_of files l = record { name = l.name; job = l.job; change = log_meaning (files l.job) l }
 
 abbrev pub publications_of : (ℕ → List ℕ) → List Listed → Registry
 publications_of files ls = map (publication_of files) ls

@@ -30,9 +30,9 @@ OpensAs reading (Err reg.Disk) = Unit {0}
 abbrev pub has_refused : LiveSession → Bool
 has_refused session = list_any (λ e. nat_lt 0 e.1.log.refused) (jobs_of session)
 
--- a log of so many bytes has room for all records that a job may make
+-- a log of so many bytes has room for all records that a job may make, in tables with a manifest
 abbrev pub roomy : ℕ
-roomy = 565182476
+roomy = 1155530768
 
 -- The session worked as a step says, on every host on which it stood and for every session for which it stood there.
 pub record IsWorked (does : Session → Step) (before now : HostState) (old new : LiveSession) (result : Result (Vec ℕ) Fault) : Type 0 where

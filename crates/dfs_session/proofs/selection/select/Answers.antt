@@ -7,8 +7,8 @@ use Rattle.dfs_record.specs.Delta.{records_of}
 use Rattle.dfs_record.specs.Namespace.{Namespace}
 use Rattle.dfs_registry.specs.Body.{greatest_job}
 use Rattle.dfs_change.specs.Identities.{AreFit}
-use Rattle.dfs_change.specs.Log.{log_changes}
-use Rattle.dfs_change.proofs.Spelled.{all_valid}
+use Rattle.dfs_change.specs.Meant.{log_meaning}
+use Rattle.dfs_change.proofs.Fits.{all_valid}
 use Rattle.dfs_ops.specs.Within.{IsWithin}
 use Rattle.dfs_session.specs.declared.selection.Selection.TheVariants.{Entries, Damaged}
 use Rattle.dfs_session.specs.Job.{first_ids}
@@ -31,8 +31,8 @@ returns-in-None-clause-selection g c = λ tells.
     let listed = c.in-Some.listed.now in
     let start = g.H.Host.state c.args.host.now in
     let same = ap (λ (disk : Disk). (disk.files listed.job).bytes) (so_far.only.content tells).disk in
-    let damaged : log_changes (bytes_of start listed.job) listed ≡ None =
-    ap (λ (bytes : List ℕ). log_changes bytes listed) (sym same) ∙ sym (c.in_ok-changes.ensures.answer (so_far.only.tells ∙ tells)) ∙ c.in-None.is in
+    let damaged : log_meaning (bytes_of start listed.job) listed ≡ None =
+    ap (λ (bytes : List ℕ). log_meaning bytes listed) (sym same) ∙ sym (c.in_ok-changes.ensures.answer (so_far.only.tells ∙ tells)) ∙ c.in-None.is in
     if_ok_by c.damaged.result (IsSelection (bytes_of start) (chosen_in c.args.registry.now.entries c.args.names.now)) (Damaged listed.name) c.damaged.ensures.name
     (first_damaged (bytes_of start) c.args.registry.now.entries c.args.names.now c.loop-index.index c.get.result.now listed c.get.ensures.value (sym c.in-Some.ensures) c.loop-index.entries damaged (so_far.selected tells))
 
@@ -49,8 +49,8 @@ loop-index-preserved g c =
     record {
       selected = λ tells.
           let same = ap (λ (disk : Disk). (disk.files listed.job).bytes) (so_far.only.content tells).disk in
-          let has : log_changes (bytes_of start listed.job) listed ≡ Some changes =
-          ap (λ (bytes : List ℕ). log_changes bytes listed) (sym same) ∙ sym (c.in_ok-changes.ensures.answer (so_far.only.tells ∙ tells)) ∙ c.in-Some-2.is in
+          let has : log_meaning (bytes_of start listed.job) listed ≡ Some changes =
+          ap (λ (bytes : List ℕ). log_meaning bytes listed) (sym same) ∙ sym (c.in_ok-changes.ensures.answer (so_far.only.tells ∙ tells)) ∙ c.in-Some-2.is in
           subst (λ (m : Namespace). IsSelection (bytes_of start) (chosen_in ls (take (index + 1) names)) (Entries m)) adopted
           (next_selected (bytes_of start) ls names index c.get.result.now listed c.get.ensures.value (sym c.in-Some.ensures) changes c.loop-index.entries has (so_far.selected tells));
       within = subst (λ (m : Namespace). IsWithin (first_ids (greatest_job ls + 1)) m) adopted

@@ -1,4 +1,4 @@
-use Rattle.std.proofs.Common.{◌≡◌, ◌∙◌, ℕ, Option, Some, Result, Err, refl, sym, ap, subst}
+use Rattle.std.proofs.Common.{arith, ◌≡◌, ◌∙◌, ℕ, Option, Some, Result, Err, refl, sym, ap, subst}
 use Rattle.std.proofs.lemmas.Result.{err_from_is_err_and}
 use Rattle.std.specs.BTreeMap.{BTreeMap, is_at}
 use Rattle.std.specs.Global.{Vec}
@@ -10,12 +10,11 @@ use Rattle.dfs_host.specs.Host.{bytes_of}
 use Rattle.dfs_host.specs.declared.fault.Fault.{Fault}
 use Rattle.dfs_host.specs.declared.fault.Fault.TheVariants.{NoMemory, Disk, LogFull}
 use Rattle.dfs_host.proofs.Causes.{none_yet, none_by}
-use Rattle.dfs_log.specs.Logs.{LogState}
 use Rattle.dfs_registry.specs.declared.listed.Listed.{Listed}
 use Rattle.dfs_reply.specs.declared.Reply.TheVariants.{Error}
 use Rattle.dfs_reply.specs.declared.Word.TheVariants as word
-use Rattle.dfs_change.specs.declared.writer.Sealed.{Sealed}
-use Rattle.dfs_change.specs.Log.{log_changes}
+use Rattle.dfs_change.specs.declared.sealing.Sealed.{Sealed}
+use Rattle.dfs_change.specs.Meant.{log_meaning}
 use Rattle.dfs_change.specs.Sealing.{entry_of}
 use Rattle.dfs_script.specs.declared.JobWord.{JobWord}
 use Rattle.dfs_session.specs.declared.job.Job.{Job as LiveJob}
@@ -25,7 +24,7 @@ use Rattle.dfs_session.specs.Sound.{jobs_of}
 use Rattle.dfs_session.specs.Worked.{IsWorked}
 use Rattle.dfs_session.proofs.Changing.{no_job}
 use Rattle.dfs_session.proofs.Jobs.{Live, remove_set}
-use Rattle.dfs_session.proofs.Publishing.{fault_or, memory_not_full, memory_not_changed, was_live, log_stood, own_fit, own_few, in_range, still_unrefused, unsealed_worked, unlisted_worked, published_worked}
+use Rattle.dfs_session.proofs.Publishing.{fault_or, none_unless, registry_still, memory_not_full, memory_not_changed, was_live, log_stood, own_fit, own_few, in_range, still_unrefused, unsealed_worked, unlisted_worked, published_worked}
 use Rattle.dfs_session.proofs.Selecting.{no_fault}
 use Rattle.dfs_session.proofs.Working.{memory_cause, stays_in_memory}
 use Rattle.dfs_session.proofs.session.Session.publish_anew.Goals as goal
@@ -78,8 +77,8 @@ returns-in_err-sealed g c =
     subst (λ (r : Result (Vec ℕ) Fault). IsWorked does before mid session (record session { jobs = jobs }) r) (sym same)
     (unsealed_worked before mid session w job c.requires.sound (sym c.in-Some.ensures.value) wrote.only c.write_changes.new.log jobs (c.get_mut.follows.holds x).0 does fault
     (subst (λ (r : Result Sealed Fault). HasFaultCause before mid r) was wrote.cause)
-    (λ is. (wrote.full (was ∙ ap Err is), ap (λ (l : LogState). l.refused) (wrote.refused (was ∙ ap Err is)).1))
-    (λ other. wrote.none_refused (λ is. other (ap fault_or (sym was ∙ is))))
+    (λ is. let some = wrote.full.0 (was ∙ ap Err is) in (omega (arith, wrote.over some, wrote.growth, wrote.same.1), some))
+    (λ other. none_unless c.write_changes.new.log.refused (λ some. other (ap fault_or (sym was ∙ wrote.full.1 some))))
     (λ file at is. wrote.never_changed file at (was ∙ ap Err is)))
 
 pub returns-in_err-reply : goal.returns-in_err-reply
@@ -99,7 +98,11 @@ returns-in_err-reply g c =
     let none : NoFault before mid = none_by (none_yet before) wrote.cause (ok Disk c.in_ok-sealed.was) in
     subst (λ (r : Result (Vec ℕ) Fault). IsWorked does before mid session (record session { jobs = jobs }) r) (sym same)
     (unsealed_worked before mid session w job c.requires.sound (sym c.in-Some.ensures.value) wrote.only c.write_changes.new.log jobs (c.get_mut.follows.holds x).0 {T = Vec ℕ} does NoMemory
-    (memory_cause (Err NoMemory) none refl) (λ is. absurd (memory_not_full is)) (λ other. wrote.none_refused (ok LogFull c.in_ok-sealed.was)) memory_not_changed)
+    (memory_cause (Err NoMemory) none refl) (λ is. absurd (memory_not_full is)) (λ other. none_unless c.write_changes.new.log.refused (λ some. ok LogFull c.in_ok-sealed.was (wrote.full.1 some))) memory_not_changed)
+
+pub list-requires-clause-stands : goal.list-requires-clause-stands
+list-requires-clause-stands g c =
+    registry_still (g.H.Host.state c.args.host.now) (g.H.Host.state c.write_changes.new.host) c.args.self.now c.args.word.now c.in-Some.job.now c.requires.sound (sym c.in-Some.ensures.value) c.write_changes.ensures.only
 
 pub list-requires-clause-job_apart : goal.list-requires-clause-job_apart
 list-requires-clause-job_apart g c =
@@ -132,7 +135,7 @@ returns-in_err-list g c =
     let sealed = c.in_ok-sealed.sealed in
     let listed : Listed = record { name = c.args.name; job = job.ids.job; at = sealed.at; len = sealed.len; count = sealed.count } in
     let file : job.log.file ≡ job.ids.job = (was_live before mid session w job c.requires.sound found).sound.file in
-    let changes : IsTrue before.tells → log_changes (bytes_of mid job.ids.job) listed ≡ Some job.space.own = λ tells. subst (λ (n : ℕ). log_changes (bytes_of mid n) (entry_of c.args.name n sealed) ≡ Some job.space.own) file (c.in_ok-sealed.ensures.log tells c.args.name) in
+    let changes : IsTrue before.tells → log_meaning (bytes_of mid job.ids.job) listed ≡ Some job.space.own = λ tells. subst (λ (n : ℕ). log_meaning (bytes_of mid n) (entry_of c.args.name n sealed) ≡ Some job.space.own) file (c.in_ok-sealed.ensures.log tells c.args.name) in
     let settled : IsTrue before.tells → IsSettled (mid.disk.files job.ids.job) = λ tells. subst (λ (n : ℕ). IsSettled (mid.disk.files n)) file (c.in_ok-sealed.ensures.settled tells) in
     let p = err_from_is_err_and c.from_residual-in_err-list.result c.from_residual-in_err-list.ensures.1 in
     let same : c.from_residual-in_err-list.result ≡ Err fault = p.1 ∙ ap Err p.2 in
@@ -140,7 +143,7 @@ returns-in_err-list g c =
     (unlisted_worked before mid after session w job c.requires.sound found wrote.only listing.only listed refl listing.images changes settled fault new (none_by (none_yet before) wrote.cause (ok Disk c.in_ok-sealed.was))
     (subst (λ (r : Result (Unit {0}) Fault). HasFaultCause mid after r) was listing.cause)
     (λ is. listing.memory (was ∙ ap Err is)) (λ is. listing.never_full (was ∙ ap Err is)) (λ file at is. listing.never_changed file at (was ∙ ap Err is))
-    (still_unrefused before mid session w job c.requires.sound found wrote.only c.write_changes.new.log jobs (c.get_mut.follows.holds x).0 (wrote.none_refused (ok LogFull c.in_ok-sealed.was))))
+    (still_unrefused before mid session w job c.requires.sound found wrote.only c.write_changes.new.log jobs (c.get_mut.follows.holds x).0 (none_unless c.write_changes.new.log.refused (λ some. ok LogFull c.in_ok-sealed.was (wrote.full.1 some)))))
 
 pub returns : goal.returns
 returns g c =
@@ -162,5 +165,5 @@ returns g c =
     c.in_ok-list.ensures.live c.in_ok-list.ensures.stands listing.images c.in_ok-reply.reply sealed.count
     (none_by (none_by (none_yet before) wrote.cause (no_fault c.write_changes.result sealed Disk c.in_ok-sealed.was)) listing.cause (no_fault c.list.result tt Disk c.in_ok-list.was))
     c.in_ok-reply.ensures.text c.in_ok-sealed.ensures.count
-    (λ tells. subst (λ (n : ℕ). log_changes (bytes_of mid n) (entry_of c.args.name n sealed) ≡ Some job.space.own) file (c.in_ok-sealed.ensures.log tells c.args.name))
+    (λ tells. subst (λ (n : ℕ). log_meaning (bytes_of mid n) (entry_of c.args.name n sealed) ≡ Some job.space.own) file (c.in_ok-sealed.ensures.log tells c.args.name))
     (λ tells. subst (λ (n : ℕ). IsSettled (mid.disk.files n)) file (c.in_ok-sealed.ensures.settled tells))

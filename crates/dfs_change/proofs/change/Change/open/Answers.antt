@@ -1,0 +1,25 @@
+use Rattle.std.proofs.Common.{sym, subst}
+use Rattle.std.specs.List.{AllByRecursion}
+use Rattle.std.proofs.lemmas.Result.{IfOk-weaker}
+use Rattle.dfs_host.specs.Host.{bytes_of}
+use Rattle.dfs_table.proofs.Rising.{own_records}
+use Rattle.dfs_record.specs.Delta.{delta}
+use Rattle.dfs_table.specs.declared.run.Run.{Run}
+use Rattle.dfs_table.specs.Identities.{IsWithin}
+use Rattle.dfs_table.specs.Stored.{IsStored, run_records}
+use Rattle.dfs_change.proofs.change.Change.open.Goals as goal
+
+pub returns-clause-stored : goal.returns-clause-stored
+returns-clause-stored g c tells =
+    let file = bytes_of (g.H.Host.state c.args.host.now) c.args.listed.now.job in
+    let run = c.in_ok-run.run' in
+    let opened = c.in_ok-run.ensures in
+    let each = opened.stored tells in
+    let stored : IsStored file run (delta (run_records file run.tables)) = record { each = each; records = sym (own_records file run.tables each opened.tables.rise) } in
+    IfOk-weaker c.share.result _ _ (λ change is. subst (λ (r : Run). IsStored file r (delta (run_records file r.tables))) (sym is.1) stored) c.share.ensures.change
+
+pub returns-clause-within : goal.returns-clause-within
+returns-clause-within g c tells =
+    let file = bytes_of (g.H.Host.state c.args.host.now) c.args.listed.now.job in
+    let within = c.in_ok-run.ensures.within tells in
+    IfOk-weaker c.share.result _ _ (λ change is. subst (λ (r : Run). AllByRecursion (IsWithin c.args.listed.now.job) (run_records file r.tables)) (sym is.1) within) c.share.ensures.change

@@ -1,0 +1,12 @@
+pub mod Appends
+pub mod Closing
+pub mod Counting
+pub mod Finding
+pub mod Joining
+pub mod Lengths
+pub mod Opening
+pub mod Rising
+pub mod Searching
+pub mod Starts
+pub mod Stays
+pub mod Steps

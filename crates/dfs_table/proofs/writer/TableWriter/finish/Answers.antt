@@ -1,0 +1,27 @@
+use Rattle.std.proofs.Common.{◌∙◌, sym, ap, subst, arith, length}
+use Rattle.std.specs.List.{sum_by}
+use Rattle.dfs_host.specs.Host.{bytes_of}
+use Rattle.dfs_record.specs.Delta.{delta}
+use Rattle.dfs_table.specs.Stored.{IsStored}
+use Rattle.dfs_table.specs.Writer.{WriterState, pushed, table_len, wrote}
+use Rattle.dfs_table.proofs.Rising.{is_stored}
+use Rattle.dfs_table.proofs.writer.TableWriter.finish.Goals as goal
+
+pub returns-clause-stored : goal.returns-clause-stored
+returns-clause-stored g c tells =
+    let old = bytes_of (g.H.Host.state c.args.host.now) c.args.log.now.file in
+    let new = bytes_of (g.H.Host.state c.close.new.host) c.args.log.now.file in
+    let ensured = c.in_ok-close.ensures in
+    subst (λ (w : WriterState). IsStored new (record { tables = w.closed }) (delta (pushed old c.args.self))) (sym c.writer-2.view_is)
+    (is_stored new c.close.new.self ensured.written.0 ensured.written.1 (ensured.stands tells) ensured.rise (pushed old c.args.self) (ensured.pushed tells ∙ ap (λ (w : WriterState). pushed old w) c.writer.view_is))
+
+pub returns-clause-wrote : goal.returns-clause-wrote
+returns-clause-wrote g c =
+    let ensured = c.in_ok-close.ensures in
+    omega (
+      arith,
+      ensured.wrote,
+      ap length ensured.written.2,
+      ap (λ (w : WriterState). sum_by table_len w.closed) c.writer-2.view_is,
+      ap (λ (w : WriterState). wrote w) c.writer.view_is,
+    )

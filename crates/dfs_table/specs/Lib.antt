@@ -1,0 +1,10 @@
+pub mod Appending
+pub mod Counts
+pub mod Identities
+pub mod Opened
+pub mod Spans
+pub mod Starts
+pub mod Stored
+pub mod Steps
+pub mod Tables
+pub mod Writer

@@ -1,0 +1,72 @@
+//! Look-ups in a table.
+
+ghost use Rattle.std.specs.Prelude.{◌≡◌, ◌<◌, ℕ, List, length, slice_get, option_map, Some, IfOk, IfSome, IsSomeAnd, IsErrOf};
+ghost use Rattle.dfs_host.specs.Host.{Told, bytes_of};
+ghost use Rattle.dfs_record.specs.Delta.{last_value};
+ghost use Rattle.dfs_record.specs.Lend.{key_of, value_of};
+ghost use Rattle.dfs_record.specs.Record.{IsValue};
+ghost use Rattle.dfs_host.specs.declared.fault.Fault.{Fault as AnyFault};
+ghost use Rattle.dfs_fence.specs.declared.fence.Fence.{Fence};
+ghost use Rattle.dfs_table.specs.Stored.{IsTableOf, block_at, records_at, table_records};
+
+use crate::Table;
+use dfs_block::Block;
+use dfs_host::{Fault, Host};
+use dfs_record::{KeyRef, Value, ValueRef};
+use std::alloc::Global;
+
+impl Table {
+    /// The value of the record with the key, and `None` exactly where no record has it. The block that may have it is found by
+    /// halves and not copied. No call is made on the host: the table holds the bytes of its blocks.
+    pub fn find<H: Host>(
+        &self,
+        alloc: Global,
+        host: &mut H,
+        key: KeyRef<'_>,
+    ) -> Result<Option<Value>, Fault>
+        requires stored { Told (H.state host.old) (IsTableOf (bytes_of (H.state host.old) self.now.file) self.now) }
+
+        ensures value { Told (H.state host.old) (IfOk result (λ found. found ≡ last_value (key_of key.entry) (table_records (bytes_of (H.state host.old) self.now.file) self.now))) }
+        ensures valid { IfOk result (λ found. IfSome found IsValue) }
+        ensures memory { (fault : AnyFault) → IsErrOf result fault → fault ≡ Fault.NoMemory }
+        ensures host { H.state host.new ≡ H.state host.old }
+    {
+        let _ = host;
+        let Some(value) = self.lent(key) else {
+            return Ok(None);
+        };
+        match value.to_value(alloc) {
+            Ok(value) => Ok(Some(value)),
+            Err(_) => Err(Fault::NoMemory),
+        }
+    }
+
+    // The same, lent from the bytes of the block.
+    fn lent(&self, key: KeyRef<'_>) -> Option<ValueRef<'_>>
+        ensures value { (file : List ℕ) → IsTableOf file self.now → option_map value_of result ≡ last_value (key_of key.entry) (table_records file self.now) }
+        ensures valid { IfSome result (λ value. IsValue (value_of value)) }
+    {
+        let index = self.fences.find(key)?;
+        let block = self.block(index)?;
+        block.find(key)
+    }
+
+    /// The block with this number, from the bytes that the table holds, and `None` where they are none.
+    pub fn block(&self, index: usize) -> Option<Block<'_>>
+        requires { index < length self.now.fences }
+        ensures block { (file : List ℕ) (f : Fence) → IsTableOf file self.now → slice_get self.now.fences index ≡ Some f → IsSomeAnd result (λ block. block ≡ records_at file f) }
+    {
+        Block::read(self.block_bytes(index)?)
+    }
+
+    // The bytes of the block with this number, where the table has them.
+    fn block_bytes(&self, index: usize) -> Option<&[u8]>
+        requires { index < length self.now.fences }
+        ensures { (file : List ℕ) (f : Fence) → IsTableOf file self.now → slice_get self.now.fences index ≡ Some f → IsSomeAnd result (λ bytes. bytes.now ≡ block_at file f) }
+    {
+        let len = self.fences.get(index).len as usize;
+        let (_, behind) = self.blocks.bytes().split_at_checked(self.starts[index])?;
+        let (block, _) = behind.split_at_checked(len)?;
+        Some(block)
+    }
+}

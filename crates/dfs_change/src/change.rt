@@ -126,7 +126,7 @@ fn find_end<H: Host>(host: &mut H, listed: &Listed) -> Result<Option<u64>, OpenF
     let Ok(len) = host.len(listed.job) else {
         return Err(OpenFault::Fault(Fault::Disk));
     };
-    if !holds_extent(len, listed) {
+    if !holds_manifest(len, listed) {
         return Ok(None);
     }
     match is_log(host, listed.job) {
@@ -136,8 +136,8 @@ fn find_end<H: Host>(host: &mut H, listed: &Listed) -> Result<Option<u64>, OpenF
     }
 }
 
-// Whether a file of so many bytes has the extent behind a header.
-fn holds_extent(len: u64, listed: &Listed) -> bool
+// Whether a file of so many bytes has the manifest's place behind a header.
+fn holds_manifest(len: u64, listed: &Listed) -> bool
     ensures { result ≡ (nat_le 12 listed.now.at && nat_le (listed.now.at + listed.now.len) len) }
 {
     12 <= listed.at && listed.at <= len && u64::from(listed.len) <= len - listed.at

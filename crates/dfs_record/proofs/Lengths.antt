@@ -17,7 +17,7 @@ at_most low high n h = leb-true n high (second_true (nat_le low n) (nat_le n hig
 name_length : (name : List ℕ) → IsName name → length name ≤ 255
 name_length name h = at_most 1 255 (length name) (first_true (is_between 1 255 (length name)) (list_all is_name_byte name) (first_true _ (not (is_dots name)) h))
 
-key_length : (key : Key) → IsKey key → length (key_bytes key) ≤ 264
+pub key_length : (key : Key) → IsKey key → length (key_bytes key) ≤ 264
 key_length key valid = omega (arith, name_length key.name valid.name)
 
 value_length : (v : Value) → IsValue v → length (value_bytes v) ≤ 275

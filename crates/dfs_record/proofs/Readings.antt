@@ -18,7 +18,7 @@ use Rattle.dfs_record.specs.Reading.{◌>>=◌, paired, mapped, guarded, number_
 abbrev pub IsBytes : List ℕ → Type 0
 IsBytes bytes = (i : ℕ) → get_or bytes i 0 < 256
 
-IsBytes-drop : (n : ℕ) (bytes : List ℕ) → IsBytes bytes → IsBytes (drop n bytes)
+pub IsBytes-drop : (n : ℕ) (bytes : List ℕ) → IsBytes bytes → IsBytes (drop n bytes)
 IsBytes-drop n bytes h i = rw get_or-drop (h (n + i))
 
 IsBytes-take : (n : ℕ) (bytes : List ℕ) → IsBytes bytes → IsBytes (take n bytes)
@@ -46,7 +46,7 @@ guard_not : {A : Type 0} (b : Bool) (x y : A) → cond b None (Some x) ≡ Some 
 guard_not true x y e = absurd cc
 guard_not false x y e = (refl, cc)
 
-some_is : {A : Type 0} (x y : A) → Some x ≡ Some y → x ≡ y
+pub some_is : {A : Type 0} (x y : A) → Some x ≡ Some y → x ≡ y
 some_is x y e = cc
 
 -- what a reader took from the front
@@ -245,7 +245,7 @@ files =
     (pairs (λ p. IsMode p.0 × (p.1 < 2 ^ 64)) (λ n. n < 2 ^ 64) (λ p. to_be_bytes w16 p.0 ++ to_be_bytes w64 p.1) (to_be_bytes w64) (paired mode_at (number_at w64)) (number_at w64)
     (pairs IsMode (λ n. n < 2 ^ 64) (to_be_bytes w16) (to_be_bytes w64) mode_at (number_at w64) modes times) times) references
 
-both_true : (a b : Bool) → a ≡ true → b ≡ true → (a && b) ≡ true
+pub both_true : (a b : Bool) → a ≡ true → b ≡ true → (a && b) ≡ true
 both_true true b p q = q
 both_true false b p q = p
 

@@ -1,5 +1,5 @@
 -- Fences that rise and do not overlap.
-use Rattle.std.proofs.Common.{◌≡◌, ℕ, zero, suc, ◌-◌, ◌<◌, Bool, true, false, cond, ◌&&◌, List, [], ◌∷◌, ◌++◌, length, get_or, refl, sym, ap, subst, ◌∙◌, inl, inr, arith, length-append}
+use Rattle.std.proofs.Common.{◌≡◌, ℕ, zero, suc, ◌-◌, ◌<◌, Bool, true, false, cond, List, [], ◌∷◌, ◌++◌, length, get_or, refl, sym, ap, subst, ◌∙◌, inl, inr, arith, length-append}
 use Rattle.std.specs.Prelude.{Option, Some, None, slice_get}
 use Rattle.std.specs.List.{AllByRecursion}
 use Rattle.std.specs.Ordering.{is_le, is_lt}
@@ -8,6 +8,7 @@ use Rattle.std.proofs.lemmas.Option.{get_or_from_slice_get, slice_get_within, sl
 use Rattle.dfs_record.specs.declared.Key.{Key}
 use Rattle.dfs_record.specs.Key.{key_cmp}
 use Rattle.dfs_record.specs.Records.{IsBelow}
+use Rattle.dfs_record.proofs.Readings.{both_true}
 use Rattle.dfs_fence.specs.declared.fence.Fence.{Fence}
 use Rattle.dfs_fence.specs.Cover.{Covers, CoversAt, AtMostOneCovers}
 use Rattle.dfs_fence.specs.Index.{IsFence, AreApart, AreFences, IsAboveLast, last_end}
@@ -90,18 +91,6 @@ fences_either true fs new f is are more = subst AreFences (sym is) more
 fences_either false fs new f is are more = subst AreFences (sym is) are
 
 -- ---- tests
-
-pub first_true : (a b : Bool) → (a && b) ≡ true → a ≡ true
-first_true true b p = refl
-first_true false b p = p
-
-pub second_true : (a b : Bool) → (a && b) ≡ true → b ≡ true
-second_true true b p = p
-second_true false b p = absurd cc
-
-pub both_true : (a b : Bool) → a ≡ true → b ≡ true → (a && b) ≡ true
-both_true true b p q = q
-both_true false b p q = p
 
 pub above_of : (o : Option Key) (key : Key) → is_above o key ≡ true → IsAboveLast o key
 above_of None key h = tt

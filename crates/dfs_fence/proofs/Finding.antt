@@ -8,12 +8,13 @@ use Rattle.std.proofs.lemmas.Option.{get_or_from_slice_get, slice_get_within, sl
 use Rattle.dfs_record.specs.declared.Key.{Key}
 use Rattle.dfs_record.specs.Key.{key_cmp}
 use Rattle.dfs_record.specs.Records.{IsBelow}
+use Rattle.dfs_record.proofs.Readings.{first_true, second_true, both_true}
 use Rattle.dfs_fence.specs.declared.fence.Fence.{Fence}
 use Rattle.dfs_fence.specs.Cover.{CoversAt}
 use Rattle.dfs_fence.specs.Index.{IsAtMost, AreFences}
 use Rattle.dfs_fence.specs.Points.{ends_below, begins_below, IsEndsPoint, IsBeginsPoint, IsFromPoint, IsToPoint}
 use Rattle.dfs_fence.specs.Ranges.{is_below, is_from, has_room, meets, AreThoseThatMeet, NoneMeets}
-use Rattle.dfs_fence.proofs.Apart.{each_at, ends_before, covering, first_true, second_true, both_true}
+use Rattle.dfs_fence.proofs.Apart.{each_at, ends_before, covering}
 use Rattle.dfs_fence.proofs.Orders.{less, at_most_below, below_below, below_at_most, not_both, not_below}
 use Rattle.dfs_fence.proofs.Spelled.{some_is}
 

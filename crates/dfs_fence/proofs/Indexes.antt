@@ -1,21 +1,20 @@
 -- A count, and so many fences.
-use Rattle.std.proofs.Common.{◌≡◌, cond, ℕ, ◌*◌, ◌≤◌, true, not, List, [], ◌∷◌, ◌++◌, length, take, drop, refl, sym, ap, ◌∙◌, arith, length-append}
-use Rattle.std.specs.Prelude.{Option, Some, None, Result, Ok, Err, IfOk, IfSome, IsSomeAnd, ◌↔◌, IsTrue, nat_le}
+use Rattle.std.proofs.Common.{◌≡◌, cond, ℕ, ◌*◌, ◌≤◌, true, List, [], ◌∷◌, ◌++◌, length, take, drop, refl, sym, ap, ◌∙◌, arith, length-append}
+use Rattle.std.specs.Prelude.{Option, Some, None, Result, Ok, Err, IfOk, IfSome, IsSomeAnd, ◌↔◌, nat_le}
 use Rattle.std.specs.Int.{w16, w32, w64, to_be_bytes, from_be_bytes}
-use Rattle.std.specs.List.{AllByRecursion, flat_map, list_all}
-use Rattle.std.proofs.lemmas.Bool.{le-ltb, le-leb, leb-true}
+use Rattle.std.specs.List.{AllByRecursion, flat_map}
+use Rattle.std.proofs.lemmas.Bool.{le-ltb, le-leb}
 use Rattle.std.proofs.lemmas.List.{append-nil, take-append-drop, take_at, drop_at}
 use Rattle.std.proofs.lemmas.Nat.{from_be_bytes-to_be_bytes_4}
-use Rattle.dfs_record.specs.declared.Key.{Key}
-use Rattle.dfs_record.specs.Name.{is_between, is_name_byte, is_dots}
+use Rattle.dfs_record.specs.Name.{is_between}
 use Rattle.dfs_record.specs.Reading.{number_in}
-use Rattle.dfs_record.specs.Record.{IsKey, key_bytes}
-use Rattle.dfs_record.proofs.Readings.{first_true, second_true}
+use Rattle.dfs_record.specs.Record.{key_bytes}
+use Rattle.dfs_record.proofs.Lengths.{key_length}
+use Rattle.dfs_record.proofs.Readings.{both_true}
 use Rattle.dfs_fence.specs.declared.fence.Fence.{Fence}
 use Rattle.dfs_fence.specs.Index.{HasFields, IsFence, IsIndex, IsNoIndex, HasOneList, IsShort, fence_bytes}
 use Rattle.dfs_fence.specs.Reading.{fence_at}
 use Rattle.dfs_fence.specs.Spelled.{AreSpelled, NoneSpelled}
-use Rattle.dfs_fence.proofs.Apart.{both_true}
 use Rattle.dfs_fence.proofs.Fields.{fences}
 use Rattle.dfs_fence.proofs.Spelled.{some_is, behind_front}
 
@@ -62,12 +61,6 @@ one_list bytes fs gs p q =
     same_spelled (length fs) (drop 4 bytes) fs gs (inside (length fs) bytes fs read p) (inside (length fs) bytes gs read q)
 
 -- ---- lengths
-
-key_length : (key : Key) → IsKey key → length (key_bytes key) ≤ 264
-key_length key valid =
-    let between : IsTrue (is_between 1 255 (length key.name)) = first_true (is_between 1 255 (length key.name)) (list_all is_name_byte key.name) (first_true _ (not (is_dots key.name)) valid.name) in
-    let short : length key.name ≤ 255 = leb-true (length key.name) 255 (second_true (nat_le 1 (length key.name)) (nat_le (length key.name) 255) between) in
-    omega (arith, short)
 
 fence_length : (f : Fence) → HasFields f → length (fence_bytes f) ≤ 542
 fence_length f has =

@@ -5,4 +5,3 @@ pub mod Apart
 pub mod Finding
 pub mod Indexes
 pub mod Parsing
-pub mod Growing

@@ -2,13 +2,13 @@
 use Rattle.std.proofs.Common.{◌≡◌, ℕ, ◌+◌, ◌<◌, ◌≤◌, true, false, List, [], ◌∷◌, ◌++◌, length, refl, sym, ap, subst, ◌∙◌, append_assoc, arith, length-append}
 use Rattle.std.specs.Prelude.{Some, None}
 use Rattle.std.specs.List.{AllByRecursion, flat_map}
-use Rattle.std.proofs.lemmas.List.{append-nil}
-use Rattle.dfs_record.proofs.Readings.{IsBytes}
+use Rattle.std.proofs.lemmas.List.{append-nil, nil_from_length}
+use Rattle.dfs_record.proofs.Readings.{IsBytes, first_true, second_true}
 use Rattle.dfs_fence.specs.declared.fence.Fence.{Fence}
 use Rattle.dfs_fence.specs.Index.{HasFields, IsFence, AreApart, AreFences, fence_bytes, last_end}
 use Rattle.dfs_fence.specs.Reading.{fence_at, is_above, may_follow}
 use Rattle.dfs_fence.specs.Spelled.{AreSpelled, NoneSpelled}
-use Rattle.dfs_fence.proofs.Apart.{above_of, follows, fences_more, first_true, second_true}
+use Rattle.dfs_fence.proofs.Apart.{above_of, follows, fences_more}
 use Rattle.dfs_fence.proofs.Fields.{fences}
 use Rattle.dfs_fence.proofs.Indexes.{all_fields}
 use Rattle.dfs_fence.proofs.Spelled.{some_is, flat_more, behind_front}
@@ -23,10 +23,6 @@ pub record HasRead (bytes rest : List ℕ) (turn : ℕ) (fs : List Fence) : Type
 pub none_read : (bytes : List ℕ) (fs : List Fence) → IsBytes bytes → fs ≡ [] → HasRead bytes bytes 0 fs
 none_read bytes fs fits is =
     subst (HasRead bytes bytes 0) (sym is) (record { fences = record { few = omega arith; each = tt; apart = tt }; number = refl; text = refl; fits = fits })
-
-no_bytes : (l : List ℕ) → length l ≡ 0 → l ≡ []
-no_bytes [] e = refl
-no_bytes (b ∷ l) e = absurd (omega (arith, e))
 
 pub all_of : (front more : List Fence) → AllByRecursion IsFence (front ++ more) → AllByRecursion IsFence more
 all_of [] more all = all
@@ -114,6 +110,6 @@ module _ {bytes rest : List ℕ} {turn : ℕ} {fs : List Fence} where
   pub read_all : HasRead bytes rest turn fs → (count : ℕ) → turn ≡ count → length rest ≡ 0 → AreSpelled count bytes fs
   read_all h count end none = record {
     number = h.number ∙ end;
-    spelled = sym h.text ∙ ap (λ (l : List ℕ). flat_map fence_bytes fs ++ l) (no_bytes rest none) ∙ append-nil (flat_map fence_bytes fs);
+    spelled = sym h.text ∙ ap (λ (l : List ℕ). flat_map fence_bytes fs ++ l) (nil_from_length rest none) ∙ append-nil (flat_map fence_bytes fs);
     fences = h.fences;
   }

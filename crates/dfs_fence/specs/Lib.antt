@@ -1,5 +1,4 @@
 pub mod Cover
-pub mod Growth
 pub mod Index
 pub mod Points
 pub mod Ranges

@@ -2,7 +2,7 @@
 
 ghost use Rattle.std.specs.Prelude.{◌≡◌, ◌≤◌, ◌++◌, OnErr, OnOk, length};
 ghost use Rattle.std.specs.List.{flat_map};
-ghost use Rattle.dfs_fence.specs.Growth.{IsGrown};
+ghost use Rattle.dfs_record.specs.Writing.{IsGrown};
 ghost use Rattle.dfs_fence.specs.Index.{AreFences, IsIndex, fence_bytes, index_bytes};
 
 use crate::{Fence, Fences};

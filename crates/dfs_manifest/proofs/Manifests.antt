@@ -4,16 +4,13 @@ use Rattle.std.specs.Prelude.{Some, None}
 use Rattle.std.specs.Int.{w32, to_be_bytes, from_be_bytes}
 use Rattle.std.specs.List.{flat_map}
 use Rattle.std.proofs.lemmas.Bool.{le-ltb}
-use Rattle.std.proofs.lemmas.List.{take-append-drop, take_at, drop_at, get_or-drop}
+use Rattle.std.proofs.lemmas.List.{take-append-drop, take_at, drop_at}
 use Rattle.std.proofs.lemmas.Nat.{from_be_bytes-to_be_bytes_4}
 use Rattle.dfs_record.specs.Reading.{number_in}
-use Rattle.dfs_record.proofs.Readings.{IsBytes}
+use Rattle.dfs_record.proofs.Readings.{IsBytes, IsBytes-drop, some_is}
 use Rattle.dfs_manifest.specs.Manifest.{Extent, IsManifest, HasOneList, IsShort, extent_bytes}
 use Rattle.dfs_manifest.specs.Tables.{tables_in, HoldsTables}
 use Rattle.dfs_manifest.proofs.Tables.{length_tables, all_spelled, flat_length, tables_again}
-
-some_is : (m n : ℕ) → Some m ≡ Some n → m ≡ n
-some_is m n e = cc
 
 pub long : (bytes : List ℕ) (ts : List Extent) → IsManifest bytes ts → 4 ≤ length bytes
 long bytes ts is = omega (arith, ap length is.spelled, length-append (to_be_bytes w32 (length ts)) (flat_map extent_bytes ts))
@@ -41,12 +38,9 @@ pub only : (count : ℕ) (bytes : List ℕ) (ts : List Extent) → Some count �
 only count bytes ts read is =
     ap (λ n. tables_in n (drop 4 bytes)) (same_count count bytes ts read is) ∙ ap (tables_in (length ts)) (behind bytes ts is) ∙ tables_again ts is.fit
 
-fits_behind : (n : ℕ) (bytes : List ℕ) → IsBytes bytes → IsBytes (drop n bytes)
-fits_behind n bytes fits i = rw get_or-drop (fits (n + i))
-
 pub made : (count : ℕ) (bytes : List ℕ) → IsBytes bytes → to_be_bytes w32 count ≡ take 4 bytes → HoldsTables count (drop 4 bytes) → IsManifest bytes (tables_in count (drop 4 bytes))
 made count bytes fits front h =
-    let all = all_spelled count (drop 4 bytes) (fits_behind 4 bytes fits) h.len in
+    let all = all_spelled count (drop 4 bytes) (IsBytes-drop 4 bytes fits) h.len in
     let number = length_tables count (drop 4 bytes) in
     record {
       few = omega (arith, number, h.few);

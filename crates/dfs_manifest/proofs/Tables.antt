@@ -6,12 +6,9 @@ use Rattle.std.specs.List.{AllByRecursion, flat_map}
 use Rattle.std.proofs.lemmas.Bool.{le-ltb}
 use Rattle.std.proofs.lemmas.List.{drop-drop}
 use Rattle.dfs_record.specs.Reading.{◌>>=◌, paired, number_at}
-use Rattle.dfs_record.proofs.Readings.{IsBytes, Reads, numbers, pairs, wide32, wide64}
+use Rattle.dfs_record.proofs.Readings.{IsBytes, Reads, numbers, pairs, some_is, wide32, wide64}
 use Rattle.dfs_manifest.specs.Manifest.{Extent, IsExtent, extent_bytes}
 use Rattle.dfs_manifest.specs.Tables.{extent_in, tables_in}
-
-some_is : {A : Type 0} (x y : A) → Some x ≡ Some y → x ≡ y
-some_is x y e = cc
 
 extents : Reads {A = Extent} IsExtent extent_bytes (paired (number_at w64) (number_at w32))
 extents = pairs (λ n. n < 2 ^ 64) (λ n. n < 2 ^ 32) (to_be_bytes w64) (to_be_bytes w32) (number_at w64) (number_at w32) (numbers w64 (2 ^ 64) wide64) (numbers w32 (2 ^ 32) wide32)

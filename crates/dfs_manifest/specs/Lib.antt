@@ -1,3 +1,2 @@
 pub mod Manifest
 pub mod Tables
-pub mod Growth

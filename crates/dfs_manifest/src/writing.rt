@@ -2,7 +2,7 @@
 
 ghost use Rattle.std.specs.Prelude.{◌≡◌, ◌≤◌, ◌++◌, OnErr, OnOk, length};
 ghost use Rattle.std.specs.List.{flat_map};
-ghost use Rattle.dfs_manifest.specs.Growth.{IsGrown};
+ghost use Rattle.dfs_record.specs.Writing.{IsGrown};
 ghost use Rattle.dfs_manifest.specs.Manifest.{extent_bytes, manifest_bytes, most_tables};
 
 use dfs_record::NoMemory;

@@ -2,7 +2,7 @@ use Rattle.std.proofs.Common.{◌++◌, ap, ◌∙◌, List, ℕ}
 use Rattle.std.specs.Int.{w16, w32, w64, to_be_bytes}
 use Rattle.dfs_record.specs.declared.Key.{Key}
 use Rattle.dfs_record.specs.Record.{key_bytes}
-use Rattle.dfs_fence.proofs.Growing.{then}
+use Rattle.dfs_record.proofs.Growing.{then}
 use Rattle.dfs_fence.proofs.writing.append_fence.Goals as goal
 
 pub returns-clause-spelled : goal.returns-clause-spelled

@@ -2,7 +2,8 @@ use Rattle.std.proofs.Common.{◌++◌, take, ap, sym, ◌∙◌, List, ℕ, ari
 use Rattle.std.specs.List.{flat_map}
 use Rattle.dfs_fence.specs.declared.fence.Fence.{Fence}
 use Rattle.dfs_fence.specs.Index.{fence_bytes}
-use Rattle.dfs_fence.proofs.Growing.{then, grown_then, flat_take}
+use Rattle.dfs_record.proofs.Growing.{then, grown_then}
+use Rattle.dfs_record.proofs.Listed.{flat_take}
 use Rattle.dfs_fence.proofs.writing.append_fences.Goals as goal
 
 pub loop-fence-preserved : goal.loop-fence-preserved

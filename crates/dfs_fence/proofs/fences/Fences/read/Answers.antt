@@ -4,7 +4,7 @@ use Rattle.std.proofs.lemmas.Bool.{leb-true}
 use Rattle.dfs_fence.specs.declared.fence.Fence.{Fence}
 use Rattle.dfs_fence.specs.Index.{IsIndex, IsNoIndex}
 use Rattle.dfs_fence.specs.Spelled.{AreSpelled}
-use Rattle.dfs_fence.proofs.Apart.{first_true}
+use Rattle.dfs_record.proofs.Readings.{first_true}
 use Rattle.dfs_fence.proofs.Indexes.{inside, made, long, found_of, only_of, none_of, count_fits}
 use Rattle.dfs_fence.proofs.fences.Fences.read.Goals as goal
 use Rattle.dfs_fence.proofs.fences.Fences.read.Goals.{In_default, Then-not-is_count, After-parse}

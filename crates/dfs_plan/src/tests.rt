@@ -23,7 +23,7 @@ fn letter(end: Option<&Key>) -> u8 {
 fn ranges(rt: HostRuntime) -> Result<(), Fail> {
     let alloc = rt.alloc();
     // First keys, the number of parts, a part and its two ends.
-    let rows: [(&[u8], u16, u16, &[u8; 2]); 24] = [
+    let rows: [(&[u8], u16, u16, &[u8; 2]); 26] = [
         (b"", 1, 0, b".."),
         (b"", 2, 1, b".."),
         (b"", 3, 1, b".."),
@@ -48,6 +48,9 @@ fn ranges(rt: HostRuntime) -> Result<(), Fail> {
         (b"dbabc", 256, 153, b"bc"),
         (b"dbabc", 256, 204, b"cd"),
         (b"dbabc", 256, 255, b"d."),
+        // More keys than are sorted without memory.
+        (b"zyxwvutsrqponmlkjihgfedcba", 2, 1, b"n."),
+        (b"zyxwvutsrqponmlkjihgfedcba", 4, 1, b"gn"),
     ];
     for (letters, parts, part, ends) in rows {
         let mut first_keys = Vec::new(alloc);

@@ -1,7 +1,8 @@
 -- How a run of calls goes on.
 use Rattle.std.proofs.Common.{◌≡◌, inl, inr, ⊎_elim, ℕ, List, [], ◌∷◌, length, drop, refl, sym, ◌∙◌, ap, subst, arith}
+use Rattle.std.specs.Prelude.{IsTrue}
 use Rattle.dfs_host.specs.Disk.{Disk, Image, MayLeave, IsImage, IsImageBut}
-use Rattle.dfs_host.specs.Host.{HostState, now, LeftBy, LeavesSince, LeavesOnly, ChangesOnly, ChangesNothing, Only, OnlyReads, SaysNothing}
+use Rattle.dfs_host.specs.Host.{HostState, bytes_of, now, LeftBy, LeavesSince, LeavesOnly, ChangesOnly, ChangesNothing, Only, OnlyReads, SaysNothing}
 
 none_left : (past : List Disk) (image : Image) → LeftBy (drop (length past) past) image → ⊥
 none_left [] image left = left
@@ -86,6 +87,24 @@ only_goes_on first second = record {
   say_faults = second.say_faults ∙ first.say_faults;
   content = λ tells. changes_on (first.content tells) (second.content (first.tells ∙ tells)) (λ bytes all. all);
 }
+
+-- reads, one behind the other
+
+pub reads_nothing : (host : HostState) → OnlyReads host host
+reads_nothing host = record { tells = refl; say_faults = refl; content = λ tells. record { disk = refl; images = started host (λ image is. is) } }
+
+pub reads_go_on : {old mid new : HostState} → OnlyReads old mid → OnlyReads mid new → OnlyReads old new
+reads_go_on first second = record {
+  tells = second.tells ∙ first.tells;
+  say_faults = second.say_faults ∙ first.say_faults;
+  content = λ tells.
+      let before = first.content tells in
+      let behind = second.content (first.tells ∙ tells) in
+      record { disk = behind.disk ∙ before.disk; images = goes_on before.images behind.images (λ image is. subst (λ (disk : Disk). IsImage disk image) before.disk is) };
+}
+
+pub same_bytes : {old new : HostState} → OnlyReads old new → IsTrue old.tells → (n : ℕ) → bytes_of new n ≡ bytes_of old n
+same_bytes only tells n = ap (λ (disk : Disk). (disk.files n).bytes) (only.content tells).disk
 
 -- reads before or behind
 pub only_reads_first : {n : ℕ} {old mid new : HostState} → OnlyReads old mid → Only n mid new → Only n old new

@@ -1,8 +1,8 @@
 -- How a run of calls goes on.
 use Rattle.std.proofs.Common.{◌≡◌, inl, inr, ⊎_elim, ℕ, List, [], ◌∷◌, length, drop, refl, sym, ◌∙◌, ap, subst, arith}
-use Rattle.std.specs.Prelude.{IsTrue}
+use Rattle.std.specs.Prelude.{IsTrue, Result}
 use Rattle.dfs_host.specs.Disk.{Disk, Image, MayLeave, IsImage, IsImageBut}
-use Rattle.dfs_host.specs.Host.{HostState, bytes_of, now, LeftBy, LeavesSince, LeavesOnly, ChangesOnly, ChangesNothing, Only, OnlyReads, SaysNothing}
+use Rattle.dfs_host.specs.Host.{HostState, Told, bytes_of, now, LeftBy, LeavesSince, LeavesOnly, ChangesOnly, ChangesNothing, HasDiskCause, Only, OnlyReads, SaysNothing}
 
 none_left : (past : List Disk) (image : Image) → LeftBy (drop (length past) past) image → ⊥
 none_left [] image left = left
@@ -81,6 +81,10 @@ nothing_done {n} host here = record {
   images = started host (λ image is. record { others = record { files = λ m other. is.files m; said = is.said }; file = here (image.files n) (is.files n) });
 }
 
+-- a file call changes only its file
+pub only_of : {n : ℕ} {P : List ℕ → Type 0} {old new : HostState} {T E : Type 0} {result : Result T E} → HasDiskCause old new result → Told old (ChangesOnly n P old new) → Only n old new
+only_of cause crash = record { tells = cause.tells; say_faults = cause.say_faults; content = λ tells. changes_widened (crash tells) (λ bytes all. tt) }
+
 pub only_goes_on : {n : ℕ} {old mid new : HostState} → Only n old mid → Only n mid new → Only n old new
 only_goes_on first second = record {
   tells = second.tells ∙ first.tells;
@@ -106,13 +110,9 @@ reads_go_on first second = record {
 pub same_bytes : {old new : HostState} → OnlyReads old new → IsTrue old.tells → (n : ℕ) → bytes_of new n ≡ bytes_of old n
 same_bytes only tells n = ap (λ (disk : Disk). (disk.files n).bytes) (only.content tells).disk
 
--- reads before or behind
-pub only_reads_first : {n : ℕ} {old mid new : HostState} → OnlyReads old mid → Only n mid new → Only n old new
-only_reads_first first second = record {
-  tells = second.tells ∙ first.tells;
-  say_faults = second.say_faults ∙ first.say_faults;
-  content = λ tells. changes_on (nothing_changed (first.content tells) (λ bytes may. tt)) (second.content (first.tells ∙ tells)) (λ bytes all. all);
-}
+-- reads write no file, so they are of any one file alone
+pub reads_only : {n : ℕ} {old new : HostState} → OnlyReads old new → Only n old new
+reads_only only = record { tells = only.tells; say_faults = only.say_faults; content = λ tells. nothing_changed (only.content tells) (λ bytes may. tt) }
 
 -- calls that say nothing, one behind the other
 

@@ -2,9 +2,7 @@
 use Rattle.std.proofs.Common.{◌≡◌, ℕ, ◌+◌, List, ◌++◌, length, take, drop, sym, ◌∙◌, ap, arith, length-append}
 use Rattle.std.proofs.lemmas.List.{take_all, drop_all, append-nil, take-append-le}
 use Rattle.dfs_host.specs.Disk.{overwritten}
-use Rattle.std.specs.Prelude.{Result}
-use Rattle.dfs_host.specs.Host.{HostState, bytes_of, Told, ChangesOnly, Only, HasDiskCause}
-use Rattle.dfs_host.proofs.Moments.{changes_widened}
+use Rattle.dfs_host.specs.Host.{HostState, bytes_of}
 use Rattle.dfs_log.specs.Logs.{LogState, LogStands, log_header}
 
 pub overwritten_end : (at : ℕ) (bytes old : List ℕ) → length old ≡ at → overwritten at bytes old ≡ old ++ bytes
@@ -35,10 +33,6 @@ kept_by_append at bytes old new is written =
 
 pub kept_by_failure : (at : ℕ) (old new : List ℕ) → length old ≡ at → take at new ≡ take at old → take at new ≡ old
 kept_by_failure at old new is same = same ∙ kept_whole at old is
-
--- a file call changes only its file
-pub only_of : {n : ℕ} {P : List ℕ → Type 0} {old new : HostState} {T E : Type 0} {result : Result T E} → HasDiskCause old new result → Told old (ChangesOnly n P old new) → Only n old new
-only_of cause crash = record { tells = cause.tells; say_faults = cause.say_faults; content = λ tells. changes_widened (crash tells) (λ bytes all. tt) }
 
 -- the file of a log begins with what it had
 abbrev pub BeginsWith : HostState → HostState → LogState → Type 0

@@ -6,11 +6,9 @@ use Rattle.std.specs.List.{AllByRecursion, list_all}
 use Rattle.std.proofs.lemmas.List.{drop_at}
 use Rattle.std.proofs.lemmas.Option.{get_or_from_slice_get, slice_get_within}
 use Rattle.std.proofs.Math.Seq.{take-suc}
-use Rattle.dfs_host.specs.Disk.{Disk, IsImage}
 use Rattle.dfs_host.specs.Fault.{NoFault}
-use Rattle.dfs_host.specs.Host.{HostState, OnlyReads, bytes_of}
+use Rattle.dfs_host.specs.Host.{HostState}
 use Rattle.dfs_host.specs.declared.fault.Fault.TheVariants.{Disk as DiskFault}
-use Rattle.dfs_host.proofs.Moments.{goes_on}
 use Rattle.dfs_record.specs.declared.Record.{Record}
 use Rattle.dfs_record.specs.Record.{spelling}
 use Rattle.dfs_block.specs.Block.{IsBlock, first_key, last_key}
@@ -90,19 +88,6 @@ module _ (file : List ℕ) (job end : ℕ) (f : Fence) where
   }
 
 -- ---- runs of reads
-
-pub reads_go_on : {old mid new : HostState} → OnlyReads old mid → OnlyReads mid new → OnlyReads old new
-reads_go_on earlier later = record {
-  tells = later.tells ∙ earlier.tells;
-  say_faults = later.say_faults ∙ earlier.say_faults;
-  content = λ tells.
-      let a = earlier.content tells in
-      let b = later.content (earlier.tells ∙ tells) in
-      record { disk = b.disk ∙ a.disk; images = goes_on a.images b.images (λ image is. subst (λ (d : Disk). IsImage d image) a.disk is) };
-}
-
-pub same_bytes : {old new : HostState} → OnlyReads old new → IsTrue old.tells → (n : ℕ) → bytes_of new n ≡ bytes_of old n
-same_bytes only tells n = ap (λ (d : Disk). (d.files n).bytes) (only.content tells).disk
 
 pub no_fault_by : {T : Type 0} {old mid new : HostState} {result : Result T OpenFault} → NoFault old mid → HasOpenCause mid new result → (IsErrOf result (Fault DiskFault) → ⊥) → NoFault old new
 no_fault_by before cause other = record {

@@ -2,7 +2,8 @@ use Rattle.std.proofs.Common.{◌∙◌, List, ℕ, subst}
 use Rattle.dfs_host.specs.Host.{bytes_of}
 use Rattle.dfs_table.specs.Opened.{IsBlockIn}
 use Rattle.dfs_host.proofs.Causes.{rose_by_sum}
-use Rattle.dfs_table.proofs.Opening.{blocks_next, each_next, no_fault_by, reads_go_on, same_bytes}
+use Rattle.dfs_host.proofs.Moments.{reads_go_on, same_bytes}
+use Rattle.dfs_table.proofs.Opening.{blocks_next, each_next, no_fault_by}
 use Rattle.dfs_table.proofs.open.read_blocks.Goals as goal
 
 pub loop-index-preserved : goal.loop-index-preserved

@@ -6,7 +6,8 @@ use Rattle.dfs_host.specs.Host.{bytes_of}
 use Rattle.dfs_table.specs.declared.open.OpenFault.TheVariants.{Malformed}
 use Rattle.dfs_table.specs.Opened.{IsBlockIn, IsTableAt}
 use Rattle.dfs_table.specs.Stored.{blocks_by}
-use Rattle.dfs_table.proofs.Opening.{lies_of, no_table, same_bytes, stored_by, table_by}
+use Rattle.dfs_host.proofs.Moments.{same_bytes}
+use Rattle.dfs_table.proofs.Opening.{lies_of, no_table, stored_by, table_by}
 use Rattle.dfs_table.proofs.table.Table.open.Goals as goal
 
 pub returns-then-not-lies-clause-malformed : goal.returns-then-not-lies-clause-malformed

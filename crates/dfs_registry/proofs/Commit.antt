@@ -69,10 +69,6 @@ module _ (bs : List Listed) (b : Listed) (is : IsListing bs) (fits : IsBody b) (
   unfolding staged front
   is_staged mid at = at ∙ overwritten_end (gate_of bs + 1) behind (at_rest bs) (length-at_rest bs) ∙ append_assoc front (0 ∷ []) behind
 
-  pub staged_long : (mid : List ℕ) → mid ≡ overwritten (gate_of bs + 1) behind (at_rest bs) → gate_of bs ≤ length mid
-  unfolding staged
-  staged_long mid at = omega (arith, ap length (is_staged mid at), length-append front (0 ∷ behind), length-front)
-
   opened : (rest : List ℕ) → front ++ 1 ∷ (body b ++ rest) ≡ header ++ blocks (bs ++ b ∷ []) ++ rest
   unfolding front
   opened rest = append_assoc header (blocks bs) (1 ∷ (body b ++ rest)) ∙ ap (λ (l : List ℕ). header ++ l) (sym (blocks-push bs b rest)) ∙ sym (append_assoc header (blocks (bs ++ b ∷ [])) rest)
@@ -168,9 +164,6 @@ module _ {bs : List Listed} {b : Listed} {piece : List ℕ} {gate : ℕ} (ready 
     mid_is mid at =
         at ∙ ap (λ n. overwritten (n + 1) piece old) ready.place ∙ ap (λ (l : List ℕ). overwritten (gate_of bs + 1) l old) ready.spelled
         ∙ ap (λ (l : List ℕ). overwritten (gate_of bs + 1) (body b ++ 0 ∷ []) l) rest
-
-    pub second_inside : (mid : List ℕ) → mid ≡ overwritten (gate + 1) piece old → gate ≤ length mid
-    second_inside mid at = omega (arith, ready.place, staged_long bs b ready.listing ready.fits ready.new ready.few mid (mid_is mid at))
 
     pub second : (mid : List ℕ) → mid ≡ overwritten (gate + 1) piece old → (c : List ℕ) → Torn gate 1 mid c → HasOldOrNew bs b c
     second mid at c torn = second_image bs b ready.listing ready.fits ready.new ready.few mid (mid_is mid at) c (subst (λ n. Torn n 1 mid c) ready.place torn)

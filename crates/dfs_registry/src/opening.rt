@@ -1,7 +1,7 @@
 ghost use Rattle.std.specs.Prelude.{◌≡◌, ◌≤◌, ◌<◌, [], length, take, OnOk, IfOk, IsErrOf, ℕ, false};
 ghost use Rattle.std.specs.Str.{bytes_eq};
 ghost use Rattle.dfs_host.specs.Disk.{IsSettled};
-ghost use Rattle.dfs_host.specs.Host.{Told, bytes_of, ChangesOnly, OnlyReads, HasDiskCause};
+ghost use Rattle.dfs_host.specs.Host.{Told, bytes_of, ChangesOnly, Only, OnlyReads, HasDiskCause};
 ghost use Rattle.dfs_registry.specs.Reading.{registry as reading, listing, at_rest, header};
 ghost use Rattle.dfs_registry.specs.Opening.{EndsBehind, HasRegCause, IsAnswer};
 ghost use Rattle.dfs_registry.specs.Standing.{RegistryStands};
@@ -22,6 +22,7 @@ fn make<H: Host>(host: &mut H) -> Result<(), Failed>
     ensures file { Told (H.state host.old) (OnOk result (bytes_of (H.state host.new) 0 ≡ at_rest [])) }
     ensures images { Told (H.state host.old) (IsSettled ((H.state host.old).disk.files 0)
         → ChangesOnly 0 (λ c. reading c ≡ listing []) (H.state host.old) (H.state host.new)) }
+    ensures only { Only 0 (H.state host.old) (H.state host.new) }
     ensures cause { HasDiskCause (H.state host.old) (H.state host.new) result }
     ensures reads { (H.state host.new).reads ≡ (H.state host.old).reads }
 {
@@ -37,6 +38,7 @@ fn close<H: Host>(host: &mut H, registry: &Registry) -> Result<(), Failed>
     ensures stands { Told (H.state host.old) (OnOk result (RegistryStands (H.state host.new) registry.now)) }
     ensures images { Told (H.state host.old) (IsSettled ((H.state host.old).disk.files 0)
         → ChangesOnly 0 (λ c. reading c ≡ listing registry.now.entries) (H.state host.old) (H.state host.new)) }
+    ensures only { Only 0 (H.state host.old) (H.state host.new) }
     ensures cause { HasDiskCause (H.state host.old) (H.state host.new) result }
     ensures reads { (H.state host.new).reads ≡ (H.state host.old).reads }
 {
@@ -70,6 +72,7 @@ fn open_short<H: Host>(alloc: Global, host: &mut H) -> Result<Registry, RegFault
     ensures stands { Told (H.state host.old) (IfOk result (λ r. RegistryStands (H.state host.new) r)) }
     ensures images { Told (H.state host.old) (IsSettled ((H.state host.old).disk.files 0)
         → ChangesOnly 0 (λ c. reading c ≡ reading (bytes_of (H.state host.old) 0)) (H.state host.old) (H.state host.new)) }
+    ensures only { Only 0 (H.state host.old) (H.state host.new) }
     ensures refused { IsErrOf result RegFault.NotRegistry → OnlyReads (H.state host.old) (H.state host.new) }
     ensures broken { (place : ℕ) → IsErrOf result (RegFault.Damaged place) → OnlyReads (H.state host.old) (H.state host.new) }
     ensures cause { HasRegCause (H.state host.old) (H.state host.new) result }
@@ -89,6 +92,7 @@ fn open_long<H: Host>(alloc: Global, host: &mut H) -> Result<Registry, RegFault>
     ensures stands { Told (H.state host.old) (IfOk result (λ r. RegistryStands (H.state host.new) r)) }
     ensures images { Told (H.state host.old) (IsSettled ((H.state host.old).disk.files 0)
         → ChangesOnly 0 (λ c. reading c ≡ reading (bytes_of (H.state host.old) 0)) (H.state host.old) (H.state host.new)) }
+    ensures only { Only 0 (H.state host.old) (H.state host.new) }
     ensures refused { IsErrOf result RegFault.NotRegistry → OnlyReads (H.state host.old) (H.state host.new) }
     ensures broken { (place : ℕ) → IsErrOf result (RegFault.Damaged place) → OnlyReads (H.state host.old) (H.state host.new) }
     ensures cause { HasRegCause (H.state host.old) (H.state host.new) result }
@@ -117,6 +121,7 @@ impl Registry {
         // Where the file was settled, each image since the start stands for what it stood for, also where a device call failed.
         ensures images { Told (H.state host.old) (IsSettled ((H.state host.old).disk.files 0)
             → ChangesOnly 0 (λ c. reading c ≡ reading (bytes_of (H.state host.old) 0)) (H.state host.old) (H.state host.new)) }
+        ensures only { Only 0 (H.state host.old) (H.state host.new) }
 
         ensures refused { IsErrOf result RegFault.NotRegistry → OnlyReads (H.state host.old) (H.state host.new) }
         ensures broken { (place : ℕ) → IsErrOf result (RegFault.Damaged place) → OnlyReads (H.state host.old) (H.state host.new) }

@@ -1,6 +1,6 @@
 ghost use Rattle.std.specs.Prelude.{◌≡◌, ◌≤◌, ◌+◌, ◌^◌, length, take, OnOk};
 ghost use Rattle.dfs_host.specs.Disk.{IsSettled, Torn, Cropped, overwritten};
-ghost use Rattle.dfs_host.specs.Host.{Told, bytes_of, ChangesOnly, HasDiskCause};
+ghost use Rattle.dfs_host.specs.Host.{Told, bytes_of, ChangesOnly, Only, HasDiskCause};
 
 use dfs_host::{Failed, Host};
 
@@ -11,8 +11,10 @@ pub fn write_and_sync<H: Host>(host: &mut H, file: u32, at: u64, bytes: &[u8]) -
 
     ensures settled { Told (H.state host.old) (OnOk result (IsSettled ((H.state host.new).disk.files file))) }
     ensures written { Told (H.state host.old) (OnOk result (bytes_of (H.state host.new) file ≡ overwritten at bytes.now (bytes_of (H.state host.old) file))) }
+    ensures longer { Told (H.state host.old) (OnOk result (at + length bytes.now ≤ length (bytes_of (H.state host.new) file))) }
     ensures images { Told (H.state host.old) (IsSettled ((H.state host.old).disk.files file)
         → ChangesOnly file (Torn at (length bytes.now) (bytes_of (H.state host.old) file)) (H.state host.old) (H.state host.new)) }
+    ensures only { Only file (H.state host.old) (H.state host.new) }
     ensures cause { HasDiskCause (H.state host.old) (H.state host.new) result }
     ensures reads { (H.state host.new).reads ≡ (H.state host.old).reads }
 {
@@ -29,6 +31,7 @@ pub fn cut_and_sync<H: Host>(host: &mut H, file: u32, len: u64) -> Result<(), Fa
     ensures cut { Told (H.state host.old) (OnOk result (bytes_of (H.state host.new) file ≡ take len (bytes_of (H.state host.old) file))) }
     ensures images { Told (H.state host.old) (IsSettled ((H.state host.old).disk.files file)
         → ChangesOnly file (Cropped len (bytes_of (H.state host.old) file)) (H.state host.old) (H.state host.new)) }
+    ensures only { Only file (H.state host.old) (H.state host.new) }
     ensures cause { HasDiskCause (H.state host.old) (H.state host.new) result }
     ensures reads { (H.state host.new).reads ≡ (H.state host.old).reads }
 {

@@ -1,5 +1,5 @@
 use Rattle.std.proofs.Common.{◌∙◌, arith}
-use Rattle.dfs_host.proofs.Moments.{changes_on, changes_widened}
+use Rattle.dfs_host.proofs.Moments.{changes_on, changes_widened, only_goes_on}
 use Rattle.dfs_registry.proofs.Commit.{gate_low}
 use Rattle.dfs_registry.proofs.Steps.{close_first, close_second, close_done}
 use Rattle.dfs_registry.proofs.opening.close.Goals as goal
@@ -31,3 +31,9 @@ returns-clause-images g c tells settled =
     changes_on (changes_widened (c.cut_and_sync.ensures.images tells settled) (close_first _ c.gate-gate.ensures.listing _ _ c.gate-gate.ensures.gate (c.requires.ends tells)))
     (c.write_and_sync.ensures.images (c.cut_and_sync.ensures.cause.tells ∙ tells) (c.in_ok-cut_and_sync.ensures.settled tells))
     (close_second _ c.gate-gate.ensures.listing _ _ c.gate-gate.ensures.gate (c.requires.ends tells) _ (c.in_ok-cut_and_sync.ensures.cut tells))
+
+pub returns-in_err-write_and_sync-clause-only : goal.returns-in_err-write_and_sync-clause-only
+returns-in_err-write_and_sync-clause-only g c = only_goes_on c.cut_and_sync.ensures.only c.write_and_sync.ensures.only
+
+pub returns-clause-only : goal.returns-clause-only
+returns-clause-only g c = only_goes_on c.cut_and_sync.ensures.only c.write_and_sync.ensures.only

@@ -1,5 +1,5 @@
 use Rattle.std.proofs.Common.{◌∙◌}
-use Rattle.dfs_host.proofs.Moments.{changes_on, changes_widened}
+use Rattle.dfs_host.proofs.Moments.{changes_on, changes_widened, only_goes_on}
 use Rattle.dfs_registry.proofs.Steps.{make_first, make_second, make_done}
 use Rattle.dfs_registry.proofs.opening.make.Goals as goal
 
@@ -20,3 +20,9 @@ returns-clause-images g c tells settled =
     changes_on (changes_widened (c.cut_and_sync.ensures.images tells settled) (make_first _ (c.requires.short tells)))
     (c.write_and_sync.ensures.images (c.cut_and_sync.ensures.cause.tells ∙ tells) (c.in_ok-cut_and_sync.ensures.settled tells))
     (make_second _ (c.in_ok-cut_and_sync.ensures.cut tells))
+
+pub returns-in_err-write_and_sync-clause-only : goal.returns-in_err-write_and_sync-clause-only
+returns-in_err-write_and_sync-clause-only g c = only_goes_on c.cut_and_sync.ensures.only c.write_and_sync.ensures.only
+
+pub returns-clause-only : goal.returns-clause-only
+returns-clause-only g c = only_goes_on c.cut_and_sync.ensures.only c.write_and_sync.ensures.only

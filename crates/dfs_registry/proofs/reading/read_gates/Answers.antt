@@ -11,7 +11,8 @@ use Rattle.dfs_registry.specs.Seen.{HasJobs}
 use Rattle.dfs_registry.specs.Opening.{FitsBody, EndsBehind}
 use Rattle.dfs_registry.proofs.Commit.{empty_listing, gate_low, listing_push, length-blocks-push}
 use Rattle.dfs_registry.proofs.Bodies.{short_name}
-use Rattle.dfs_registry.proofs.Following.{none_by_reg, no_error, at_file, reads_nothing, reads_go_on, same_bytes, ends, front_more, damaged_at, none_next, repeated_next}
+use Rattle.dfs_host.proofs.Moments.{reads_nothing, reads_go_on, same_bytes}
+use Rattle.dfs_registry.proofs.Following.{none_by_reg, no_error, at_file, ends, front_more, damaged_at, none_next, repeated_next}
 use Rattle.dfs_registry.proofs.reading.read_gates.Goals as goal
 
 pub loop-turn-init : goal.loop-turn-init
@@ -31,7 +32,7 @@ returns-in-Closed-clause-ends g c tells =
     let i = c.loop-turn.invariant in
     let start = bytes_of (g.H.Host.state c.args.host.now) 0 in
     subst (λ (l : List Listed). EndsBehind l start) (sym c.of.ensures.entries)
-    (ends start c.loop-turn.entries.items c.loop-turn.gate (i.front tells) (at_file _ start c.loop-turn.gate _ _ (same_bytes i.only tells) c.in-Closed.is (c.in_ok-read_gate.ensures.gate (i.only.tells ∙ tells))))
+    (ends start c.loop-turn.entries.items c.loop-turn.gate (i.front tells) (at_file _ start c.loop-turn.gate _ _ (same_bytes i.only tells 0) c.in-Closed.is (c.in_ok-read_gate.ensures.gate (i.only.tells ∙ tells))))
 
 pub overflow_add-body : goal.overflow_add-body
 overflow_add-body g c = let low = gate_low _ _ c.loop-turn.invariant.is_list c.loop-turn.invariant.place in omega (arith, low)
@@ -40,7 +41,7 @@ pub returns-in-Broken-clause-damaged : goal.returns-in-Broken-clause-damaged
 returns-in-Broken-clause-damaged g c tells place is =
     let i = c.loop-turn.invariant in
     let start = bytes_of (g.H.Host.state c.args.host.now) 0 in
-    let broken = at_file _ start c.loop-turn.gate _ _ (same_bytes i.only tells) c.in-Broken.is (c.in_ok-read_gate.ensures.gate (i.only.tells ∙ tells)) in
+    let broken = at_file _ start c.loop-turn.gate _ _ (same_bytes i.only tells 0) c.in-Broken.is (c.in_ok-read_gate.ensures.gate (i.only.tells ∙ tells)) in
     let here : c.loop-turn.gate + 1 ≡ place = cc in
     damaged_at start c.loop-turn.entries.items c.loop-turn.gate (i.front tells) (c.requires tells) i.is_list i.place broken.opened (inr (none_next _ _ broken.read)) ∙ ap damaged here
 
@@ -51,7 +52,7 @@ pub returns-then-turn-eq-MOST-clause-damaged : goal.returns-then-turn-eq-MOST-cl
 returns-then-turn-eq-MOST-clause-damaged g c tells place is =
     let i = c.loop-turn.invariant in
     let start = bytes_of (g.H.Host.state c.args.host.now) 0 in
-    let opened = at_file _ start c.loop-turn.gate _ _ (same_bytes i.only tells) c.in-Open.is (c.in_ok-read_gate.ensures.gate (i.only.tells ∙ tells)) in
+    let opened = at_file _ start c.loop-turn.gate _ _ (same_bytes i.only tells 0) c.in-Open.is (c.in_ok-read_gate.ensures.gate (i.only.tells ∙ tells)) in
     let here : c.loop-turn.gate + 1 ≡ place = cc in
     damaged_at start c.loop-turn.entries.items c.loop-turn.gate (i.front tells) (c.requires tells) i.is_list i.place opened.opened
     (inl (omega (arith, i.count, c.if-turn-eq-MOST.true)))
@@ -61,7 +62,7 @@ pub returns-then-branch-clause-damaged : goal.returns-then-branch-clause-damaged
 returns-then-branch-clause-damaged g c tells place is =
     let i = c.loop-turn.invariant in
     let start = bytes_of (g.H.Host.state c.args.host.now) 0 in
-    let opened = at_file _ start c.loop-turn.gate _ _ (same_bytes i.only tells) c.in-Open.is (c.in_ok-read_gate.ensures.gate (i.only.tells ∙ tells)) in
+    let opened = at_file _ start c.loop-turn.gate _ _ (same_bytes i.only tells 0) c.in-Open.is (c.in_ok-read_gate.ensures.gate (i.only.tells ∙ tells)) in
     let here : c.loop-turn.gate + 1 ≡ place = cc in
     damaged_at start c.loop-turn.entries.items c.loop-turn.gate (i.front tells) (c.requires tells) i.is_list i.place opened.opened
     (inr (repeated_next _ _ _ opened.read (sym c.in_ok-repeats-in-Open.ensures.repeated ∙ c.if-branch.true)))
@@ -90,7 +91,7 @@ loop-turn-preserved g c =
       place = omega (arith, i.place, long, ap gate_of items, length-blocks-push bs b);
       count = omega (arith, i.count, ap length items, length_push bs b);
       front = λ tells.
-          let opened = at_file _ start c.loop-turn.gate _ _ (same_bytes i.only tells) c.in-Open.is (c.in_ok-read_gate.ensures.gate (i.only.tells ∙ tells)) in
+          let opened = at_file _ start c.loop-turn.gate _ _ (same_bytes i.only tells 0) c.in-Open.is (c.in_ok-read_gate.ensures.gate (i.only.tells ∙ tells)) in
           ap (λ n. take (c.loop-turn.gate + (29 + n)) start) long ∙ front_more start bs c.loop-turn.gate (i.front tells) i.place b opened.spelled ∙ ap (λ (l : List Listed). header ++ blocks l) (sym items);
       only = reads_go_on i.only c.read_gate.ensures.only;
       no_fault = none_by_reg i.no_fault c.read_gate.ensures.cause (no_error c.in_ok-read_gate.was);

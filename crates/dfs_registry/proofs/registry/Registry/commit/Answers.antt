@@ -1,7 +1,7 @@
 use Rattle.std.proofs.Common.{refl, sym, ◌∙◌, ap, length, arith}
 use Rattle.dfs_host.proofs.Moments.{changes_on, changes_widened}
 use Rattle.dfs_registry.specs.Reading.{at_rest}
-use Rattle.dfs_registry.proofs.Commit.{added, ready, gate_low, low_gate, short_piece, placed_push, first, second, second_inside, stands_after}
+use Rattle.dfs_registry.proofs.Commit.{added, ready, gate_low, low_gate, short_piece, placed_push, first, second, stands_after}
 use Rattle.dfs_registry.proofs.Standing.{leaves_list}
 use Rattle.dfs_registry.proofs.registry.Registry.commit.Goals as goal
 
@@ -18,14 +18,10 @@ returns-in_err-write_and_sync-clause-images g c tells =
     let is = ready _ _ _ _ _ _ _ _ _ _ c.self.view_is c.self.invariant c.pending.view_is c.pending.invariant c.deref-body.ensures.value c.requires.apart c.requires.few in
     changes_widened (c.write_and_sync.ensures.images tells (c.requires.stands tells).settled) (first is _ (c.requires.stands tells).file)
 
-pub write_and_sync-requires-2-clause-inside : goal.write_and_sync-requires-2-clause-inside
-write_and_sync-requires-2-clause-inside g c tells =
-    let is = ready _ _ _ _ _ _ _ _ _ _ c.self.view_is c.self.invariant c.pending.view_is c.pending.invariant c.deref-body.ensures.value c.requires.apart c.requires.few in
-    let told = sym c.write_and_sync.ensures.cause.tells ∙ tells in
-    second_inside is _ (c.requires.stands told).file _ (c.in_ok-write_and_sync.ensures.written told)
-
 pub write_and_sync-requires-2-clause-end : goal.write_and_sync-requires-2-clause-end
-write_and_sync-requires-2-clause-end g c = let low = gate_low _ _ c.self.invariant.listing c.self.invariant.place in omega (arith, low)
+write_and_sync-requires-2-clause-end g c =
+    let is = ready _ _ _ _ _ _ _ _ _ _ c.self.view_is c.self.invariant c.pending.view_is c.pending.invariant c.deref-body.ensures.value c.requires.apart c.requires.few in
+    omega (arith, low_gate is, short_piece is)
 
 pub returns-in_err-write_and_sync-2-clause-images : goal.returns-in_err-write_and_sync-2-clause-images
 returns-in_err-write_and_sync-2-clause-images g c tells =

@@ -8,7 +8,7 @@ use Rattle.std.specs.Map.{set_value, remove_entry}
 use Rattle.dfs_host.specs.Host.{HostState}
 use Rattle.dfs_host.specs.declared.fault.Fault.{Fault}
 use Rattle.dfs_host.proofs.Causes.{none_yet}
-use Rattle.dfs_host.proofs.Moments.{silent_reads}
+use Rattle.dfs_host.proofs.Moments.{silent_reads, reads_nothing}
 use Rattle.dfs_log.specs.Logs.{LogState, LogStands}
 use Rattle.dfs_record.specs.declared.Record.{Record}
 use Rattle.dfs_record.specs.Delta.{records_of}
@@ -34,7 +34,6 @@ use Rattle.dfs_session.specs.Worked.{IsWorked, has_refused}
 use Rattle.dfs_session.proofs.Faults.{unrefused, each_unrefused, sound_refused, not_true}
 use Rattle.dfs_session.proofs.Images.{read_images}
 use Rattle.dfs_session.proofs.Jobs.{Live, FoundBoth, all_set, all_found, all_remove, apart_set, apart_remove, both_found, zip_set, zip_remove}
-use Rattle.dfs_session.proofs.Kept.{reads_nothing}
 use Rattle.dfs_session.proofs.Values.{stands_value}
 use Rattle.dfs_session.proofs.Working.{OnlyMemory, on_ok, worked_by_memory}
 

@@ -1,11 +1,10 @@
 -- What stands on a host stands on a later one that has the files it stands on.
-use Rattle.std.proofs.Common.{◌≡◌, ◌≢◌, ◌∙◌, ℕ, Bool, true, false, List, [], ◌∷◌, length, take, refl, sym, ap, subst}
+use Rattle.std.proofs.Common.{◌≡◌, ◌≢◌, ◌∙◌, ℕ, Bool, true, false, List, [], ◌∷◌, length, take, sym, ap, subst}
 use Rattle.std.proofs.lemmas.Bool.{eq-eqb}
 use Rattle.std.specs.Prelude.{IsTrue, nat_eq, ◌||◌}
 use Rattle.std.specs.List.{AllByRecursion}
-use Rattle.dfs_host.specs.Disk.{Disk, FileState, IsImage, IsSettled}
+use Rattle.dfs_host.specs.Disk.{Disk, FileState, IsSettled}
 use Rattle.dfs_host.specs.Host.{HostState, bytes_of, Only, OnlyReads}
-use Rattle.dfs_host.proofs.Moments.{started, goes_on}
 use Rattle.dfs_log.specs.Logs.{LogState, LogStands}
 use Rattle.dfs_registry.specs.declared.listed.Listed.{Listed}
 use Rattle.dfs_registry.specs.Body.{lists_job}
@@ -24,19 +23,6 @@ Keeps before after n = after.disk.files n ≡ before.disk.files n
 
 abbrev bytes_in : FileState → List ℕ
 bytes_in file = file.bytes
-
-pub reads_nothing : (host : HostState) → OnlyReads host host
-reads_nothing host = record { tells = refl; say_faults = refl; content = λ tells. record { disk = refl; images = started host (λ image is. is) } }
-
-pub reads_go_on : {before mid after : HostState} → OnlyReads before mid → OnlyReads mid after → OnlyReads before after
-reads_go_on {before} {mid} {after} first second = record {
-  tells = second.tells ∙ first.tells;
-  say_faults = second.say_faults ∙ first.say_faults;
-  content = λ tells.
-      let one = first.content tells in
-      let two = second.content (first.tells ∙ tells) in
-      record { disk = two.disk ∙ one.disk; images = goes_on one.images two.images (λ image is. subst (λ (disk : Disk). IsImage disk image) one.disk is) };
-}
 
 pub reads_keep : {before after : HostState} → OnlyReads before after → IsTrue before.tells → (n : ℕ) → Keeps before after n
 reads_keep only tells n = ap (λ (disk : Disk). disk.files n) (only.content tells).disk

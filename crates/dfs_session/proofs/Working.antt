@@ -9,7 +9,7 @@ use Rattle.dfs_host.specs.Host.{HostState, LeavesOnly, OnlyReads, SaysNothing}
 use Rattle.dfs_host.specs.declared.fault.Fault.{Fault}
 use Rattle.dfs_host.specs.declared.fault.Fault.TheVariants.{NoMemory, Disk, LogFull, Changed}
 use Rattle.dfs_host.proofs.Causes.{none_yet}
-use Rattle.dfs_host.proofs.Moments.{silent_reads}
+use Rattle.dfs_host.proofs.Moments.{silent_reads, reads_nothing}
 use Rattle.dfs_reply.specs.declared.Reply.{Reply}
 use Rattle.dfs_reply.specs.Text.{text}
 use Rattle.dfs_script.specs.declared.JobWord.{JobWord}
@@ -25,7 +25,7 @@ use Rattle.dfs_session.proofs.Values.{stands_value}
 use Rattle.dfs_session.proofs.Images.{read_images}
 use Rattle.dfs_session.proofs.Jobs.{Live}
 use Rattle.dfs_session.proofs.Faults.{sound_refused, full_by}
-use Rattle.dfs_session.proofs.Kept.{reads_nothing, reads_keep, keep_all, sound_reads, stands_kept}
+use Rattle.dfs_session.proofs.Kept.{reads_keep, keep_all, sound_reads, stands_kept}
 
 abbrev IsMemory : Fault → Type 0
 IsMemory NoMemory = Unit {0}

@@ -3,7 +3,7 @@ use Rattle.std.specs.Prelude.{IsSome}
 use Rattle.dfs_host.specs.Host.{bytes_of}
 use Rattle.dfs_manifest.specs.Manifest.{IsManifest}
 use Rattle.dfs_table.specs.Stored.{part}
-use Rattle.dfs_table.proofs.Opening.{reads_go_on, same_bytes}
+use Rattle.dfs_host.proofs.Moments.{reads_go_on, same_bytes}
 use Rattle.dfs_change.specs.Whole.{AreTablesAt, table_fences}
 use Rattle.dfs_change.proofs.Opened.{changes_by, other_count, run_within}
 use Rattle.dfs_change.proofs.change.open_run.Goals as goal

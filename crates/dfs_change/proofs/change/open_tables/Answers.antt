@@ -9,7 +9,8 @@ use Rattle.dfs_table.specs.declared.open.OpenFault.TheVariants.{Malformed}
 use Rattle.dfs_table.specs.Opened.{IsNoTable, IsTableAt}
 use Rattle.dfs_table.specs.Stored.{IsTableOf}
 use Rattle.dfs_table.specs.Writer.{AreIn}
-use Rattle.dfs_table.proofs.Opening.{no_fault_by, reads_go_on, same_bytes}
+use Rattle.dfs_host.proofs.Moments.{reads_go_on, same_bytes}
+use Rattle.dfs_table.proofs.Opening.{no_fault_by}
 use Rattle.dfs_table.proofs.Stays.{all_append}
 use Rattle.dfs_change.specs.Whole.{AreTablesAt, end_of, table_fences}
 use Rattle.dfs_change.proofs.Opened.{none_there, not_apart, tables_next}

@@ -13,7 +13,7 @@ use Rattle.dfs_ops.specs.Within.{IsWithin}
 use Rattle.dfs_session.specs.declared.selection.Selection.TheVariants.{Entries, Damaged}
 use Rattle.dfs_session.specs.Job.{first_ids}
 use Rattle.dfs_session.specs.Selected.{IsSelection, chosen_in}
-use Rattle.dfs_session.proofs.Kept.{reads_go_on}
+use Rattle.dfs_host.proofs.Moments.{reads_go_on}
 use Rattle.dfs_session.proofs.Selecting.{must_be_listed, next_selected, first_damaged, found_greatest, still_within, if_ok_by, if_some_at, no_fault}
 use Rattle.dfs_session.proofs.selection.select.Goals as goal
 

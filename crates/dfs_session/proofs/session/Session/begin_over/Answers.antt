@@ -4,13 +4,12 @@ use Rattle.std.specs.Global.{Vec}
 use Rattle.dfs_host.specs.declared.fault.Fault.{Fault}
 use Rattle.dfs_host.specs.declared.fault.Fault.TheVariants.{NoMemory, Disk}
 use Rattle.dfs_host.proofs.Causes.{none_yet}
-use Rattle.dfs_host.proofs.Moments.{silent_only, silent_reads}
+use Rattle.dfs_host.proofs.Moments.{silent_only, silent_reads, reads_nothing}
 use Rattle.dfs_session.specs.Session.{begins_over}
 use Rattle.dfs_session.specs.Worked.{IsWorked}
 use Rattle.dfs_session.proofs.Beginning.{begun_worked, begun_value, begun_images, no_memory_worked, disk_worked, failed_cause, fine_cause}
 use Rattle.dfs_session.proofs.Faults.{sound_refused}
 use Rattle.dfs_session.proofs.Images.{read_images}
-use Rattle.dfs_session.proofs.Kept.{reads_nothing}
 use Rattle.dfs_session.proofs.Values.{stands_value}
 use Rattle.dfs_session.proofs.Working.{same_sound}
 use Rattle.dfs_session.proofs.session.Session.begin_over.Goals as goal

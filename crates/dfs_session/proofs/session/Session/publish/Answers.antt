@@ -10,7 +10,7 @@ use Rattle.dfs_session.specs.Session.{of_job, of_live, publishes, publishes_for,
 use Rattle.dfs_session.specs.Sound.{listed_in, live_in}
 use Rattle.dfs_session.proofs.Changing.{no_job, found_job, some_of, none_of}
 use Rattle.dfs_session.proofs.Choosing.{publishes_as, publishes_as_anew, any_found, after_reads}
-use Rattle.dfs_session.proofs.Kept.{reads_nothing}
+use Rattle.dfs_host.proofs.Moments.{reads_nothing}
 use Rattle.dfs_session.proofs.Lists.{lent_some}
 use Rattle.dfs_session.proofs.Working.{stays_in_memory}
 use Rattle.dfs_session.proofs.session.Session.publish.Goals as goal

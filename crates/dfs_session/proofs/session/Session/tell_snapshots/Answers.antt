@@ -4,7 +4,7 @@ use Rattle.std.specs.Global.{Vec}
 use Rattle.dfs_host.specs.declared.fault.Fault.{Fault}
 use Rattle.dfs_host.specs.declared.fault.Fault.TheVariants.{NoMemory}
 use Rattle.dfs_host.proofs.Causes.{none_yet}
-use Rattle.dfs_host.proofs.Moments.{silent_reads}
+use Rattle.dfs_host.proofs.Moments.{silent_reads, reads_nothing}
 use Rattle.dfs_record.specs.declared.SnapName.{SnapName}
 use Rattle.dfs_reply.specs.declared.Reply.TheVariants.{Snapshots as SnapshotsReply}
 use Rattle.dfs_session.specs.Session.{tells_snapshots, stays}
@@ -13,7 +13,6 @@ use Rattle.dfs_session.proofs.Beginning.{no_memory_worked}
 use Rattle.dfs_session.proofs.Choosing.{snapshots_same}
 use Rattle.dfs_session.proofs.Faults.{sound_refused}
 use Rattle.dfs_session.proofs.Images.{read_images}
-use Rattle.dfs_session.proofs.Kept.{reads_nothing}
 use Rattle.dfs_session.proofs.Values.{stands_value}
 use Rattle.dfs_session.proofs.Working.{stays_in_memory}
 use Rattle.dfs_session.proofs.session.Session.tell_snapshots.Goals as goal

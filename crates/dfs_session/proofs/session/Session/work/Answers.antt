@@ -10,7 +10,7 @@ use Rattle.dfs_script.specs.Line.{meaning}
 use Rattle.dfs_script.specs.Read.{IsSaid}
 use Rattle.dfs_session.specs.Session.{after_meaning, step as step_of}
 use Rattle.dfs_session.proofs.Choosing.{read_fault_worked}
-use Rattle.dfs_session.proofs.Kept.{reads_nothing}
+use Rattle.dfs_host.proofs.Moments.{reads_nothing}
 use Rattle.dfs_session.proofs.Publishing.{memory_not_full, memory_not_changed}
 use Rattle.dfs_session.proofs.Working.{memory_cause, stays_in_memory}
 use Rattle.dfs_session.proofs.session.Session.work.Goals as goal

@@ -10,8 +10,8 @@ ghost use Rattle.dfs_registry.specs.Standing.{RegistryStands, LeavesList};
 
 use crate::entries::Entries;
 use crate::format::{GREATEST_JOB, MOST, OPEN};
-use crate::settle::write_and_sync;
 use crate::listed::spell;
+use crate::settle::write_and_sync;
 use crate::{Listed, Pending, PrepFault};
 use dfs_host::{Failed, Host};
 use dfs_record::SnapName;

@@ -1,10 +1,13 @@
-//! A caller of the registry, and worked files over a host in memory.
+//! A caller of the registry, and worked files over a host in memory. Nothing stands on it.
+//!
+//! `add` shows that what `prepare` leaves is all that `commit` asks for. The tests open worked files and damaged ones.
 #![tactic(auto)]
 
-ghost use Rattle.std.specs.Prelude.{◌≡◌, ◌++◌, ◌∷◌, [], false, IsFalse, IsTrue, OnOk};
+ghost use Rattle.std.specs.Prelude.{◌≡◌, ◌↔◌, ◌++◌, ◌∷◌, [], false, length, IsFalse, IsTrue, IsErrOf, OnOk};
+ghost use Rattle.dfs_host.specs.Counts.{Rose};
 ghost use Rattle.dfs_host.specs.Host.{Told};
 ghost use Rattle.dfs_record.specs.Name.{is_between};
-ghost use Rattle.dfs_registry.specs.Body.{lists_job};
+ghost use Rattle.dfs_registry.specs.Body.{lists_job, lists_name};
 ghost use Rattle.dfs_registry.specs.Standing.{RegistryStands};
 
 use dfs_host::Host;
@@ -26,6 +29,12 @@ pub fn add<H: Host>(host: &mut H, registry: &mut Registry, listed: Listed) -> Re
 
     ensures added { OnOk result (registry.new.entries ≡ registry.old.entries ++ listed ∷ []) }
     ensures stands { Told (H.state host.old) (OnOk result (RegistryStands (H.state host.new) registry.new)) }
+
+    // The cause of each refusal but for want of memory.
+    ensures taken { IsErrOf result (AddFault.Prepare PrepFault.Taken) ↔ IsTrue (lists_name registry.old.entries listed.name) }
+    ensures full { IsErrOf result (AddFault.Prepare PrepFault.Full) ↔ ((lists_name registry.old.entries listed.name ≡ false) × (length registry.old.entries ≡ 4096)) }
+    ensures disk { IsErrOf result AddFault.Disk → Rose (H.state host.old).disk_faults (H.state host.new).disk_faults }
+    ensures other { (IsErrOf result AddFault.Disk → ⊥) → (H.state host.new).disk_faults ≡ (H.state host.old).disk_faults }
 {
     match registry.prepare(listed) {
         Ok(pending) => match registry.commit(host, pending) {

@@ -22,7 +22,8 @@ use Rattle.dfs_record.proofs.Maps.{same_key}
 use Rattle.dfs_record.proofs.Replays.{get-delta}
 use Rattle.dfs_merge.specs.Sources.{Source, ended, is_loaded_to, is_settled, kept, merged_rest, all_unread}
 use Rattle.dfs_merge.specs.Rank.{Rank, rank_by, rank, rank_cmp, rank_at, IsFirst, no_key, head_cmp}
-use Rattle.dfs_merge.specs.Laws.{last-append, get-kept, absent_above, first, second, less}
+use Rattle.dfs_merge.specs.Laws.{last-append, get-kept, absent_above}
+use Rattle.dfs_cursor.specs.Ranges.{first, second, less}
 
 pub rank_total : IsTotalOrder rank_cmp
 rank_total = then_total (on_total (λ r. r.class) nat_cmp_total) (then_total (on_total (λ r. r.key) keys_total) (back_total (on_total (λ r. r.index) nat_cmp_total)))

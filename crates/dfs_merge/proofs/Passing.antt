@@ -15,7 +15,8 @@ use Rattle.dfs_record.specs.Records.{Files, KeysRise, IsBelow}
 use Rattle.dfs_record.proofs.Maps.{alike_keys, same_key}
 use Rattle.dfs_merge.specs.Sources.{Source, ended, source, sources, AllCome, without, taken, IsTaken, ArePassed, IsAdvanced}
 use Rattle.dfs_merge.specs.Rank.{have_one_key, IsStep, OthersPassed}
-use Rattle.dfs_merge.specs.Laws.{first, second, less, AreLists}
+use Rattle.dfs_merge.specs.Laws.{AreLists}
+use Rattle.dfs_cursor.specs.Ranges.{first, second, less}
 use Rattle.dfs_merge.specs.Sources.{merged_rest, all_unread, least_bound, IsMergePassed}
 use Rattle.dfs_merge.specs.Rank.{IsFirst}
 use Rattle.dfs_merge.specs.Laws.{comes_begins}

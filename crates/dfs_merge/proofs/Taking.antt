@@ -16,7 +16,8 @@ use Rattle.dfs_record.specs.Records.{IsBelow}
 use Rattle.dfs_record.proofs.Maps.{same_map, alike_keys, same_key, get-remove}
 use Rattle.dfs_record.proofs.Replays.{get-delta}
 use Rattle.dfs_merge.specs.Sources.{Source, is_settled, kept, merged_rest, all_unread, least_bound, lesser, without, taken}
-use Rattle.dfs_merge.specs.Laws.{last-append, get-kept, first, second, less}
+use Rattle.dfs_merge.specs.Laws.{last-append, get-kept}
+use Rattle.dfs_cursor.specs.Ranges.{first, second, less}
 use Rattle.dfs_merge.proofs.Firsts.{listed, rests}
 
 -- ---- values

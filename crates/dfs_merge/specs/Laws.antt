@@ -17,6 +17,7 @@ use Rattle.dfs_record.specs.Delta.{Delta, delta, records_of, merged, last_value,
 use Rattle.dfs_record.specs.Records.{Files, KeysRise, IsPrefix, IsAbove, IsBelow}
 use Rattle.dfs_record.proofs.Maps.{same_map}
 use Rattle.dfs_record.proofs.Replays.{get-delta, rising_records}
+use Rattle.dfs_cursor.specs.Ranges.{first, second, less}
 use Rattle.dfs_merge.specs.Sources.{Source, is_loaded_to, is_settled, kept, merged_rest, all_unread, lesser, least_bound, source, sources, AllCome, MergedComes}
 
 -- ---- values of lists that are joined
@@ -44,19 +45,6 @@ get-kept p d q = find-where_key key_cmp p q (λ x e. ap p (sym (keys_exact q x e
 
 IsDown : (Key → Bool) → Type 0
 IsDown p = (a b : Key) → IsBelow a b → p b ≡ true → p a ≡ true
-
-pub second : (a b : Bool) → T (a && b) → T b
-second true b h = h
-second false b h = absurd h
-
-pub first : (a b : Bool) → T (a && b) → T a
-first true b h = tt
-first false b h = absurd h
-
-pub less : (o : Ordering) → T (is_lt o) → o ≡ Less
-less Less p = refl
-less Equal p = absurd p
-less Greater p = absurd p
 
 none_behind : (p : Key → Bool) → IsDown p → (k : Key) (es : List (Key × Value)) → p k ≡ false → T (below_all key_cmp k es) → where_key key_cmp p es ≡ []
 unfolding IsDown

@@ -95,7 +95,7 @@ fn pass<C: Records>(tree: &mut Tree, sources: &mut Vec<C>)
     ensures tree { IsTournament (sources_of C.rest C.unread C.bound sources.new.items) 0 (length sources.new.items) tree.new }
 {
     let first = tree.winner();
-    tree.pass_others(sources, first);
+    let _ = tree.pass_others(sources, first);
     sources[first].advance();
     tree.replay(sources, first);
 }

@@ -1,6 +1,6 @@
 //! Which source is taken first.
 
-ghost use Rattle.std.specs.Prelude.{◌≡◌, slice_index_or};
+ghost use Rattle.std.specs.Prelude.{◌≡◌, slice_index_or, IsFalse};
 ghost use Rattle.dfs_record.specs.Records.{IsHead};
 ghost use Rattle.dfs_merge.specs.Sources.{sources as sources_of, ended};
 ghost use Rattle.dfs_merge.specs.Rank.{rank_at, rank_cmp, head_cmp, class_of_head, have_one_key, better_of, IsStep};
@@ -67,15 +67,17 @@ pub(crate) fn better<C: Records>(sources: &[C], a: usize, b: usize) -> usize
     if compare(sources, b, a).is_lt() { b } else { a }
 }
 
-/// Passes the first record of a source that is not the first one and has its key.
-pub(crate) fn pass_same<C: Records>(sources: &mut Vec<C>, index: usize, first: usize)
-    ensures { IsStep C.rest C.unread C.bound C.Comes index first sources.old.items sources.new.items }
+/// Passes the first record of a source that is not the first one and has its key, and answers whether it did.
+pub(crate) fn pass_same<C: Records>(sources: &mut Vec<C>, index: usize, first: usize) -> bool
+    ensures passed { IsStep C.rest C.unread C.bound C.Comes index first sources.old.items sources.new.items }
+    ensures same { IsFalse result → sources.new.items ≡ sources.old.items }
 {
     if index == first {
-        return;
+        return false;
     }
     if !has_key_of(sources, index, first) {
-        return;
+        return false;
     }
     sources[index].advance();
+    true
 }

@@ -1,6 +1,6 @@
 //! The matches between sources.
 
-ghost use Rattle.std.specs.Prelude.{◌≡◌, ℕ, ◌<◌, IfOk};
+ghost use Rattle.std.specs.Prelude.{◌≡◌, ℕ, ◌<◌, IfOk, IsFalse};
 ghost use Rattle.dfs_merge.specs.Sources.{sources as sources_of};
 ghost use Rattle.dfs_merge.specs.Tree.{winner_of, IsTournament, AreReplayed, ArePassedIn};
 
@@ -79,10 +79,11 @@ impl Tree {
         }
     }
 
-    /// Takes the first key of a source off all others, and plays their matches again. A half whose winner has another
-    /// key is left alone.
-    pub(crate) fn pass_others<C: Records>(&mut self, sources: &mut Vec<C>, first: usize)
-        ensures { ArePassedIn C.rest C.unread C.bound C.Comes first self.old self.new sources.old.items sources.new.items }
+    /// Takes the first key of a source off all others, plays the matches of those that had it again, and answers
+    /// whether there were such. A half whose winner has another key is left alone.
+    pub(crate) fn pass_others<C: Records>(&mut self, sources: &mut Vec<C>, first: usize) -> bool
+        ensures passed { ArePassedIn C.rest C.unread C.bound C.Comes first self.old self.new sources.old.items sources.new.items }
+        ensures same { IsFalse result → (sources.new.items ≡ sources.old.items) × (winner_of self.new ≡ winner_of self.old) }
     {
         match self {
             Tree::Source(index) => pass_same(sources, *index, first),
@@ -93,11 +94,15 @@ impl Tree {
                 ..
             } => {
                 if *winner != first && !has_key_of(sources, *winner, first) {
-                    return;
+                    return false;
                 }
-                left.pass_others(sources, first);
-                right.pass_others(sources, first);
+                let in_left = left.pass_others(sources, first);
+                let in_right = right.pass_others(sources, first);
+                if !in_left && !in_right {
+                    return false;
+                }
                 *winner = better(sources, left.winner(), right.winner());
+                true
             }
         }
     }

@@ -9,14 +9,14 @@ pub index_mut-requires : goal.index_mut-requires
 index_mut-requires g c =
     let whole = passed_whole g.C.Records.rest g.C.Records.unread g.C.Records.bound g.C.Records.Comes g.met.C.Records.rest_rises
     (λ s files l h. record { rises = g.met.C.Records.comes_rises s files l h; begins = g.met.C.Records.comes_begins s files l h; loaded = g.met.C.Records.comes_loaded s files l h })
-    c.args.sources.now.items c.pass_others.new.sources.items c.args.tree.now c.pass_others.new.self c.winner-first.result c.winner-first.ensures c.requires.tree c.pass_others.ensures in
+    c.args.sources.now.items c.pass_others.new.sources.items c.args.tree.now c.pass_others.new.self c.winner-first.result c.winner-first.ensures c.requires.tree c.pass_others.ensures.passed in
     omega (arith, whole.1.len, len_source g.C.Records.rest g.C.Records.unread g.C.Records.bound c.args.sources.now.items c.winner-first.result whole.0.within)
 
 pub advance-requires : goal.advance-requires
 advance-requires g c =
     let whole = passed_whole g.C.Records.rest g.C.Records.unread g.C.Records.bound g.C.Records.Comes g.met.C.Records.rest_rises
     (λ s files l h. record { rises = g.met.C.Records.comes_rises s files l h; begins = g.met.C.Records.comes_begins s files l h; loaded = g.met.C.Records.comes_loaded s files l h })
-    c.args.sources.now.items c.pass_others.new.sources.items c.args.tree.now c.pass_others.new.self c.winner-first.result c.winner-first.ensures c.requires.tree c.pass_others.ensures in
+    c.args.sources.now.items c.pass_others.new.sources.items c.args.tree.now c.pass_others.new.self c.winner-first.result c.winner-first.ensures c.requires.tree c.pass_others.ensures.passed in
     still_some g.C.Records.rest g.C.Records.unread g.C.Records.bound g.C.Records.Comes g.met.C.Records.rest_rises
     (λ s files l h. record { rises = g.met.C.Records.comes_rises s files l h; begins = g.met.C.Records.comes_begins s files l h; loaded = g.met.C.Records.comes_loaded s files l h })
     c.args.sources.now.items c.pass_others.new.sources.items c.winner-first.result c.index_mut.result.now whole.0 c.requires.some whole.1 c.index_mut.ensures.value
@@ -28,7 +28,7 @@ returns-clause-passed g c =
     let t = c.winner-first.result in
     let whole = passed_whole g.C.Records.rest g.C.Records.unread g.C.Records.bound g.C.Records.Comes g.met.C.Records.rest_rises
     (λ s files l h. record { rises = g.met.C.Records.comes_rises s files l h; begins = g.met.C.Records.comes_begins s files l h; loaded = g.met.C.Records.comes_loaded s files l h })
-    olds curs c.args.tree.now c.pass_others.new.self t c.winner-first.ensures c.requires.tree c.pass_others.ensures in
+    olds curs c.args.tree.now c.pass_others.new.self t c.winner-first.ensures c.requires.tree c.pass_others.ensures.passed in
     let within : t < length curs = omega (arith, whole.1.len, len_source g.C.Records.rest g.C.Records.unread g.C.Records.bound olds t whole.0.within) in
     merge_passed g.C.Records.rest g.C.Records.unread g.C.Records.bound g.C.Records.Comes g.met.C.Records.rest_rises
     (λ s files l h. record { rises = g.met.C.Records.comes_rises s files l h; begins = g.met.C.Records.comes_begins s files l h; loaded = g.met.C.Records.comes_loaded s files l h })
@@ -44,7 +44,7 @@ returns-clause-tree g c =
     let t = c.winner-first.result in
     let whole = passed_whole g.C.Records.rest g.C.Records.unread g.C.Records.bound g.C.Records.Comes g.met.C.Records.rest_rises
     (λ s files l h. record { rises = g.met.C.Records.comes_rises s files l h; begins = g.met.C.Records.comes_begins s files l h; loaded = g.met.C.Records.comes_loaded s files l h })
-    olds curs c.args.tree.now c.pass_others.new.self t c.winner-first.ensures c.requires.tree c.pass_others.ensures in
+    olds curs c.args.tree.now c.pass_others.new.self t c.winner-first.ensures c.requires.tree c.pass_others.ensures.passed in
     let within : t < length curs = omega (arith, whole.1.len, len_source g.C.Records.rest g.C.Records.unread g.C.Records.bound olds t whole.0.within) in
     replayed_whole g.C.Records.rest g.C.Records.unread g.C.Records.bound g.C.Records.Comes g.met.C.Records.rest_rises
     (λ s files l h. record { rises = g.met.C.Records.comes_rises s files l h; begins = g.met.C.Records.comes_begins s files l h; loaded = g.met.C.Records.comes_loaded s files l h })

@@ -60,7 +60,8 @@ fn escapes(rt: HostRuntime) -> Result<(), Fail> {
     assert_eq!(rt; back.as_slice(), bytes.as_slice());
     assert!(rt; matches!(read_escaped(b"a\x7f", &mut back), Err(PathFault::Bad)));
     assert_eq!(rt; back.as_slice(), bytes.as_slice());
-    assert!(rt; unescape(rt.alloc(), b"%7e~").is_ok());
+    let meant = unescape(rt.alloc(), b"%7e~").ok().ok_or("escapes")?;
+    assert_eq!(rt; meant.as_slice(), b"~~".as_slice());
     Ok(())
 }
 

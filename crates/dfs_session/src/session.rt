@@ -118,7 +118,7 @@ impl Session {
         ensures durable { (s : PlainSession) → Told (H.state host.old) (Stands (H.state host.old) self.old s → OnOk result (HoldsNow (step_of s line.now).session.registry (H.state host.new))) }
         ensures silent { SaysNothing (H.state host.old) (H.state host.new) }
         ensures cause { HasFaultCause (H.state host.old) (H.state host.new) result }
-        // `LogFull` exactly where the log of a job refused a piece in this line. A log that may have some 565 million bytes never does.
+        // `LogFull` exactly where the log of a job refused a piece in this line. A log that may have some 1.16 billion bytes never does.
         ensures full { IsErrOf result Fault.LogFull ↔ IsTrue (has_refused self.new) }
         ensures never_full { IsErrOf result Fault.LogFull → self.old.settings.log_bytes < roomy }
         ensures never_changed { (file at : ℕ) → IsErrOf result (Fault.Changed file at) → ⊥ }

@@ -25,9 +25,9 @@ use Rattle.dfs_fence.proofs.Orders.{below_at_most}
 use Rattle.dfs_fence.proofs.Spelled.{some_is as same_some}
 use Rattle.dfs_table.specs.declared.table.Table.{Table}
 use Rattle.dfs_table.specs.Stored.{IsBlockOf, IsTableOf, block_at, blocks_by, part, records_at, records_by, run_records, table_records}
-use Rattle.dfs_table.specs.Steps.{ClosesBlock, ClosesTable, IsAboveAll, States, fences_of}
+use Rattle.dfs_table.specs.Steps.{ClosesBlock, ClosesTable, IsAboveAll, States}
 use Rattle.dfs_table.specs.Tables.{all_fences}
-use Rattle.dfs_table.specs.Writer.{WriterState, WriterStands, pushed}
+use Rattle.dfs_table.specs.Writer.{WriterState, WriterStands, fences_of, pushed}
 use Rattle.dfs_table.proofs.Stays.{all_append, all_records_stay, blocks_stay, bytes_stay, run_stays, tables_stay}
 
 -- ---- the first key and the last one

@@ -1,16 +1,16 @@
 -- The steps of a writer on a host.
-use Rattle.std.proofs.Common.{◌≡◌, ◌≤◌, ◌<◌, ◌+◌, ◌*◌, ◌∷◌, [], ℕ, List, length, ◌∙◌, sym, ap, subst, arith}
+use Rattle.std.proofs.Common.{◌≡◌, ◌≤◌, ◌<◌, ◌+◌, ◌*◌, ◌++◌, ◌∷◌, [], ℕ, List, length, ◌∙◌, sym, ap, subst, arith}
 use Rattle.std.proofs.lemmas.List.{length-append, length-take}
 use Rattle.dfs_host.specs.Host.{HostState, Told, bytes_of}
 use Rattle.dfs_log.specs.Logs.{LogState, LogStands}
 use Rattle.dfs_block.specs.Block.{block_bytes, last_key}
 use Rattle.dfs_fence.specs.Index.{AreApart, index_bytes, last_end, most_fences}
 use Rattle.dfs_table.specs.Appending.{Appends, HasAppended}
-use Rattle.dfs_table.specs.Steps.{ClosesBlock, ClosesTable, IsReady, fences_of}
+use Rattle.dfs_table.specs.Steps.{ClosesBlock, ClosesTable, IsReady}
 use Rattle.dfs_table.specs.declared.table.Table.{Table}
 use Rattle.dfs_table.specs.Tables.{all_fences}
 use Rattle.dfs_table.specs.Counts.{count_of}
-use Rattle.dfs_table.specs.Writer.{IsFull, IsSound, WriterStands, WriterState, begun, count_in, owed, pushed, table_len, wrote}
+use Rattle.dfs_table.specs.Writer.{AddsBlock, AddsTable, IsFull, IsSound, WriterStands, WriterState, begun, count_in, fences_of, owed, pushed, table_len, wrote}
 use Rattle.dfs_table.proofs.Stays.{all_append}
 use Rattle.std.specs.List.{AllByRecursion, sum_by}
 use Rattle.std.proofs.lemmas.List.Sums.{sum_by-append, sum_by-cons}
@@ -106,6 +106,25 @@ module _ {place : ℕ} {old new : WriterState} (step : ClosesBlock place old new
       rise = subst AreApart (sym same_fences) rises_after_block;
       last_is = ap last_end same_fences ∙ block_ends place old new step;
       room = room;
+    }
+
+-- ---- what the steps added
+
+module _ {place : ℕ} {old new : WriterState} (step : ClosesBlock place old new) where
+  pub added_block : AddsBlock old new
+  added_block = record { fence = step.fence; fences = block_fences place old new step; count = step.states.count }
+
+  module _ {job at : ℕ} {end : WriterState} (next : ClosesTable job at new end) where
+    pub added_block_before : AddsBlock old end
+    added_block_before = record { fence = step.fence; fences = table_fences job at new end next ∙ block_fences place old new step; count = step.states.count }
+
+    pub added_table : AddsTable old end.closed
+    added_table = record {
+      table = next.table;
+      fence = step.fence;
+      tables = next.closed ∙ ap (λ ts. ts ++ next.table ∷ []) step.closed;
+      fences = next.table_fences ∙ step.fences;
+      count = step.states.count;
     }
 
 -- ---- what the steps cost

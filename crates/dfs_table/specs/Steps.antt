@@ -6,9 +6,8 @@ use Rattle.dfs_block.specs.Block.{IsBlock, block_bytes, first_key, last_key}
 use Rattle.dfs_fence.specs.declared.fence.Fence.{Fence}
 use Rattle.dfs_fence.specs.Index.{AreApart, IsAboveLast, IsIndex, index_bytes, last_end, most_fences}
 use Rattle.dfs_table.specs.declared.table.Table.{Table}
-use Rattle.dfs_table.specs.Tables.{all_fences}
 use Rattle.dfs_table.specs.Counts.{count_of}
-use Rattle.dfs_table.specs.Writer.{IsFull, WriterState}
+use Rattle.dfs_table.specs.Writer.{IsFull, WriterState, fences_of}
 use Rattle.std.specs.List.{AllByRecursion}
 
 -- the fence of the block of these records, which begins at this place
@@ -19,10 +18,6 @@ pub record States (place : ℕ) (rs : List Record) (f : Fence) : Type 0 where
   pub count : f.count ≡ length rs
   pub first : first_key rs ≡ Some f.first
   pub last : last_key rs ≡ Some f.last
-
--- the fences of all that was written
-abbrev pub fences_of : WriterState → List Fence
-fences_of w = all_fences w.closed ++ w.fences
 
 -- each record not yet written is above what was written
 abbrev pub IsAboveAll : WriterState → Type 0

@@ -27,6 +27,10 @@ pub record WriterState : Type 0 where
 abbrev pub fresh : ℕ → WriterState
 fresh tables_left = record { closed = []; fences = []; blocks = []; records = []; tables_left = tables_left; spent = false }
 
+-- the fences of all blocks that it wrote
+abbrev pub fences_of : WriterState → List Fence
+fences_of w = all_fences w.closed ++ w.fences
+
 -- The file has what the writer wrote: the tables that it closed, and the blocks of the one under way.
 pub record WriterStands (file : List ℕ) (w : WriterState) : Type 0 where
   pub closed : AllByRecursion (IsTableOf file) w.closed
@@ -77,6 +81,20 @@ IsOneTooMany w r = BeginsTable w r × (w.tables_left ≤ begun w)
 -- of its block and 539 of its own, 4 of the index and 542 of its fence.
 abbrev pub owed : WriterState → ℕ
 owed w = 1100 * length w.records + 546 * length w.fences
+
+-- The records not yet written became one block, the last one of all.
+pub record AddsBlock (old new : WriterState) : Type 0 where
+  pub fence : Fence
+  pub fences : fences_of new ≡ fences_of old ++ fence ∷ []
+  pub count : fence.count ≡ length old.records
+
+-- The records not yet written became the last block of the table under way, which became the last one of these tables.
+pub record AddsTable (w : WriterState) (ts : List Table) : Type 0 where
+  pub table : Table
+  pub fence : Fence
+  pub tables : ts ≡ w.closed ++ table ∷ []
+  pub fences : table.fences ≡ w.fences ++ fence ∷ []
+  pub count : fence.count ≡ length w.records
 
 -- what is so of each writer that is not spent
 pub record IsSound (w : WriterState) : Type 0 where

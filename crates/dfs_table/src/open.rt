@@ -72,7 +72,7 @@ impl Table {
         ensures malformed { Told (H.state host.old) (IsErrOf result OpenFault.Malformed → IsNoTable (bytes_of (H.state host.old) file) file at len end) }
 
         // Memory is asked for only where an index of that length may lie there.
-        ensures memory { IsErrOf result (OpenFault.Fault Fault.NoMemory) → at + len ≤ end }
+        ensures memory { IsErrOf result (OpenFault.Fault Fault.NoMemory) → Lies at len 2220036 end }
         ensures never_full { IsErrOf result (OpenFault.Fault Fault.LogFull) → ⊥ }
         ensures never_changed { (file at : ℕ) → IsErrOf result (OpenFault.Fault (Fault.Changed file at)) → ⊥ }
         ensures only { OnlyReads (H.state host.old) (H.state host.new) }

@@ -14,13 +14,13 @@ ghost use Rattle.dfs_block.specs.Block.{IsAboveLast, IsBlock, block_bytes, first
 ghost use Rattle.dfs_fence.specs.declared.fence.Fence.{Fence};
 ghost use Rattle.dfs_fence.specs.Index.{AreApart, IsFence, IsIndex, index_bytes, last_end, most_fences};
 ghost use Rattle.dfs_fence.specs.Index.{IsAboveLast as IsAboveEnd};
-ghost use Rattle.dfs_log.specs.Logs.{IsLog, LogStands};
+ghost use Rattle.dfs_log.specs.Logs.{LogStands};
 ghost use Rattle.dfs_table.specs.Appending.{Appends, HasAppended};
-ghost use Rattle.dfs_table.specs.Steps.{ClosesBlock, ClosesTable, EndsRun, IsReady, States, fences_of};
+ghost use Rattle.dfs_table.specs.Steps.{ClosesBlock, ClosesTable, EndsRun, IsReady, States};
 ghost use Rattle.dfs_table.specs.Counts.{count_of};
 ghost use Rattle.dfs_table.specs.Stored.{IsStored, run_records};
 ghost use Rattle.dfs_table.specs.Tables.{all_fences};
-ghost use Rattle.dfs_table.specs.Writer.{AreIn, Fits, IsFull, IsOneTooMany, IsSound, WriterStands, count_in, fresh, owed, pushed, table_len, wrote};
+ghost use Rattle.dfs_table.specs.Writer.{AddsBlock, AddsTable, AreIn, Fits, IsFull, IsOneTooMany, IsSound, WriterStands, count_in, fences_of, fresh, owed, pushed, table_len, wrote};
 
 use crate::{BlockBytes, Run, Table, Tables};
 use dfs_block::{Block, BlockBuilder};
@@ -99,9 +99,11 @@ impl TableWriter {
         ensures file { OnOk result (AreIn log.old.file self.new.closed) }
         ensures tables_left { self.new.tables_left ≡ self.old.tables_left }
 
-        // It goes into the block under way exactly where it fits there. A table is closed with 4,096 blocks.
+        // It goes into the block under way exactly where it fits there, and then host and log are as before. Where it does not, what
+        // is not written yet becomes one block, and it begins the next one. A table is closed with 4,096 blocks.
         ensures fits { Fits self.old (record_of rec.entry) → OnOk result (self.new ≡ record self.old { records = self.old.records ++ record_of rec.entry ∷ [] }) }
-        ensures begins { ¬ (Fits self.old (record_of rec.entry)) → OnOk result (self.new.records ≡ record_of rec.entry ∷ []) }
+        ensures untouched { Fits self.old (record_of rec.entry) → (H.state host.new ≡ H.state host.old) × (log.new ≡ log.old) }
+        ensures begins { ¬ (Fits self.old (record_of rec.entry)) → OnOk result ((self.new.records ≡ record_of rec.entry ∷ []) × AddsBlock self.old self.new) }
         ensures full_tables { OnOk result (AllByRecursion IsFull self.new.closed) }
         ensures count { OnOk result (count_in self.new ≡ count_in self.old + 1) }
         ensures enough { OnOk result (4096 * length self.new.closed ≤ count_in self.new) }
@@ -114,6 +116,7 @@ impl TableWriter {
         ensures refused { 0 < log.new.refused → IsErrOf result Fault.LogFull }
         ensures over { 0 < log.new.refused → log.new.limit < log.new.len + log.new.refused }
         ensures one_too_many { IsOneTooMany self.old (record_of rec.entry) → OnOk result ⊥ }
+        ensures failed { IsErrOf result Fault.Disk → IsTrue log.new.spent }
         ensures never_changed { (file at : ℕ) → IsErrOf result (Fault.Changed file at) → ⊥ }
 
         // The log grows by blocks and indexes alone.
@@ -149,6 +152,8 @@ impl TableWriter {
         ensures stored { Told (H.state host.old) (IfOk result (λ run. IsStored (bytes_of (H.state host.new) log.old.file) run (delta (pushed (bytes_of (H.state host.old) log.old.file) self)))) }
         ensures records { Told (H.state host.old) (IfOk result (λ run. run_records (bytes_of (H.state host.new) log.old.file) run.tables ≡ pushed (bytes_of (H.state host.old) log.old.file) self)) }
         ensures none { self.records ≡ [] → IfOk result (λ run. run.tables ≡ []) × (H.state host.new ≡ H.state host.old) }
+        // What is not written yet becomes the last block of one last table, and the tables before it stay.
+        ensures last { 1 ≤ length self.records → IfOk result (λ run. AddsTable self run.tables) }
         ensures count { IfOk result (λ run. count_of (all_fences run.tables) ≡ count_in self) }
         ensures file { IfOk result (λ run. AreIn log.old.file run.tables) }
         ensures few { IfOk result (λ run. length run.tables ≤ self.tables_left) }
@@ -160,6 +165,7 @@ impl TableWriter {
         // `LogFull` exactly where the log refused a piece.
         ensures full { IsErrOf result Fault.LogFull ↔ (0 < log.new.refused) }
         ensures over { 0 < log.new.refused → log.new.limit < log.new.len + log.new.refused }
+        ensures failed { IsErrOf result Fault.Disk → IsTrue log.new.spent }
         ensures never_changed { (file at : ℕ) → IsErrOf result (Fault.Changed file at) → ⊥ }
 
         // The log grows by the run's blocks and indexes alone.
@@ -195,17 +201,20 @@ impl TableWriter {
         ensures count { OnOk result (count_of (all_fences self.new.closed) ≡ count_in self.old) }
         ensures written { OnOk result ((self.new.records ≡ []) × (self.new.fences ≡ []) × (self.new.blocks ≡ [])) }
         ensures none { self.old.records ≡ [] → OnOk result (self.new.closed ≡ []) × (H.state host.new ≡ H.state host.old) }
+        ensures last { 1 ≤ length self.old.records → OnOk result (AddsTable self.old self.new.closed) }
         ensures file { OnOk result (AreIn log.old.file self.new.closed) }
         ensures few { OnOk result (length self.new.closed ≤ self.old.tables_left) }
         ensures live { OnOk result (IsFalse log.new.spent) }
         ensures full { IsErrOf result Fault.LogFull ↔ (0 < log.new.refused) }
+        ensures failed { IsErrOf result Fault.Disk → IsTrue log.new.spent }
         ensures never_changed { (file at : ℕ) → IsErrOf result (Fault.Changed file at) → ⊥ }
         ensures wrote { OnOk result (log.new.len + wrote self.old ≡ log.old.len + wrote self.new) }
         ensures growth { log.new.len + log.new.refused ≤ log.old.len + owed self.old }
         ensures left { Appends (H.state host.old) (H.state host.new) log.old log.new }
         ensures cause { HasFaultCause (H.state host.old) (H.state host.new) result }
     {
-        tell_log(log);
+        // Read here, since the length is within the limit of every log.
+        let _ = log.len();
         if self.block.count() == 0 {
             return Ok(());
         }
@@ -236,13 +245,15 @@ impl TableWriter {
         ensures last { OnOk result (last_key self.new.records ≡ Some (key_of rec.entry.key)) }
         ensures file { OnOk result (AreIn log.old.file self.new.closed) }
         ensures fits { Fits self.old (record_of rec.entry) → OnOk result (self.new ≡ record self.old { records = self.old.records ++ record_of rec.entry ∷ [] }) }
-        ensures begins { ¬ (Fits self.old (record_of rec.entry)) → OnOk result (self.new.records ≡ record_of rec.entry ∷ []) }
+        ensures untouched { Fits self.old (record_of rec.entry) → (H.state host.new ≡ H.state host.old) × (log.new ≡ log.old) }
+        ensures begins { ¬ (Fits self.old (record_of rec.entry)) → OnOk result ((self.new.records ≡ record_of rec.entry ∷ []) × AddsBlock self.old self.new) }
         ensures count { OnOk result (count_in self.new ≡ count_in self.old + 1) }
         ensures sound { OnOk result (IsSound self.new) }
         ensures live { OnOk result (IsFalse log.new.spent) }
         ensures full { IsErrOf result Fault.LogFull → (0 < log.new.refused) ⊎ IsOneTooMany self.old (record_of rec.entry) }
         ensures refused { 0 < log.new.refused → IsErrOf result Fault.LogFull }
         ensures one_too_many { IsOneTooMany self.old (record_of rec.entry) → OnOk result ⊥ }
+        ensures failed { IsErrOf result Fault.Disk → IsTrue log.new.spent }
         ensures never_changed { (file at : ℕ) → IsErrOf result (Fault.Changed file at) → ⊥ }
         ensures wrote { OnOk result (log.new.len + wrote self.old ≡ log.old.len + wrote self.new) }
         ensures growth { OnOk result (log.new.len + owed self.new ≤ log.old.len + owed self.old + 1100) }
@@ -251,7 +262,8 @@ impl TableWriter {
         ensures cause { HasFaultCause (H.state host.old) (H.state host.new) result }
         ensures same { (self.new.tables_left ≡ self.old.tables_left) × (self.new.spent ≡ self.old.spent) }
     {
-        tell_log(log);
+        // Read here, since the length is within the limit of every log.
+        let _ = log.len();
         if self.block.count() == 0 && !self.may_begin() {
             return Err(Fault::LogFull);
         }
@@ -285,10 +297,12 @@ impl TableWriter {
         ensures log { Told (H.state host.old) (OnOk result (LogStands (H.state host.new) log.new)) }
         ensures file { OnOk result (AreIn log.old.file self.new.closed) }
         ensures ready { OnOk result (IsReady (last_key self.old.records) (count_in self.old) self.new) }
+        ensures block { OnOk result (AddsBlock self.old self.new) }
         ensures live { OnOk result (IsFalse log.new.spent) }
         ensures full { IsErrOf result Fault.LogFull → (0 < log.new.refused) ⊎ EndsRun self.old }
         ensures refused { 0 < log.new.refused → IsErrOf result Fault.LogFull }
         ensures one_too_many { EndsRun self.old → OnOk result ⊥ }
+        ensures failed { IsErrOf result Fault.Disk → IsTrue log.new.spent }
         ensures never_changed { (file at : ℕ) → IsErrOf result (Fault.Changed file at) → ⊥ }
         ensures wrote { OnOk result (log.new.len + wrote self.old ≡ log.old.len + wrote self.new) }
         ensures growth { OnOk result (log.new.len + owed self.new ≤ log.old.len + owed self.old) }
@@ -321,6 +335,7 @@ impl TableWriter {
         ensures closes { OnOk result (ClosesBlock log.old.len self.old self.new) }
         ensures appended { OnOk result (HasAppended (H.state host.old) (H.state host.new) log.old log.new (block_bytes self.old.records)) }
         ensures full { IsErrOf result Fault.LogFull ↔ (0 < log.new.refused) }
+        ensures failed { IsErrOf result Fault.Disk → IsTrue log.new.spent }
         ensures never_changed { (file at : ℕ) → IsErrOf result (Fault.Changed file at) → ⊥ }
         ensures growth { log.new.len + log.new.refused ≤ log.old.len + length (block_bytes self.old.records) }
         ensures left { Appends (H.state host.old) (H.state host.new) log.old log.new }
@@ -351,6 +366,7 @@ impl TableWriter {
         ensures closes { OnOk result (ClosesTable log.old.file log.old.len self.old self.new) }
         ensures appended { OnOk result (HasAppended (H.state host.old) (H.state host.new) log.old log.new (index_bytes self.old.fences)) }
         ensures full { IsErrOf result Fault.LogFull ↔ (0 < log.new.refused) }
+        ensures failed { IsErrOf result Fault.Disk → IsTrue log.new.spent }
         ensures never_changed { (file at : ℕ) → IsErrOf result (Fault.Changed file at) → ⊥ }
         ensures growth { log.new.len + log.new.refused ≤ log.old.len + length (index_bytes self.old.fences) }
         ensures left { Appends (H.state host.old) (H.state host.new) log.old log.new }
@@ -369,13 +385,6 @@ impl TableWriter {
         };
         Ok(())
     }
-}
-
-// It does nothing: its contract tells a proof what is so of every log.
-fn tell_log(log: &LogWriter)
-    ensures { IsLog log.now }
-{
-    let _len = log.len();
 }
 
 // Writes the block, and adds its fence and its bytes to those of its table.
@@ -398,6 +407,7 @@ fn write_block<H: Host>(
     ensures blocks { OnOk result (blocks.new ≡ blocks.old ++ block_bytes block.now) }
     ensures appended { OnOk result (HasAppended (H.state host.old) (H.state host.new) log.old log.new (block_bytes block.now)) }
     ensures full { IsErrOf result Fault.LogFull ↔ (0 < log.new.refused) }
+    ensures failed { IsErrOf result Fault.Disk → IsTrue log.new.spent }
     ensures never_changed { (file at : ℕ) → IsErrOf result (Fault.Changed file at) → ⊥ }
     ensures growth { log.new.len + log.new.refused ≤ log.old.len + length (block_bytes block.now) }
     ensures left { Appends (H.state host.old) (H.state host.new) log.old log.new }
@@ -450,6 +460,7 @@ fn write_index<H: Host>(
     ensures index { IsIndex (index_bytes fences.now) fences.now }
     ensures appended { OnOk result (HasAppended (H.state host.old) (H.state host.new) log.old log.new (index_bytes fences.now)) }
     ensures full { IsErrOf result Fault.LogFull ↔ (0 < log.new.refused) }
+    ensures failed { IsErrOf result Fault.Disk → IsTrue log.new.spent }
     ensures never_changed { (file at : ℕ) → IsErrOf result (Fault.Changed file at) → ⊥ }
     ensures growth { log.new.len + log.new.refused ≤ log.old.len + length (index_bytes fences.now) }
     ensures left { Appends (H.state host.old) (H.state host.new) log.old log.new }

@@ -5,7 +5,7 @@ use Rattle.dfs_table.specs.Tables.{all_fences}
 use Rattle.dfs_table.proofs.Appends.{goes_on}
 use Rattle.dfs_table.proofs.Closing.{table_fences}
 use Rattle.dfs_table.proofs.Lengths.{block_cost, index_cost}
-use Rattle.dfs_table.proofs.Steps.{after_both, block_owed, rises_after_block, same_after_both}
+use Rattle.dfs_table.proofs.Steps.{added_table, after_both, block_owed, rises_after_block, same_after_both}
 use Rattle.dfs_table.proofs.writer.TableWriter.close.Goals as goal
 
 pub returns-in_err-close_block-clause-growth : goal.returns-in_err-close_block-clause-growth
@@ -37,6 +37,9 @@ returns-clause-rise g c =
     let first = c.in_ok-close_block.ensures in let then = c.in_ok-close_table.ensures in
     let all = table_fences c.close_block.new.log.file c.close_block.new.log.len c.close_block.new.self c.close_table.new.self then.closes in
     subst AreApart (sym all ∙ ap (λ fs. all_fences c.close_table.new.self.closed ++ fs) then.closes.fences ∙ append-nil (all_fences c.close_table.new.self.closed)) (rises_after_block first.closes c.requires.sound)
+
+pub returns-clause-last : goal.returns-clause-last
+returns-clause-last g c = λ _. added_table c.in_ok-close_block.ensures.closes c.in_ok-close_table.ensures.closes
 
 pub returns-clause-growth : goal.returns-clause-growth
 returns-clause-growth g c =

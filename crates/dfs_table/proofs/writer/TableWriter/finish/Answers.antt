@@ -1,9 +1,9 @@
-use Rattle.std.proofs.Common.{◌∙◌, sym, ap, subst, arith, length}
+use Rattle.std.proofs.Common.{◌≤◌, ◌++◌, ◌∷◌, [], ◌∙◌, sym, ap, subst, arith, length}
 use Rattle.std.specs.List.{sum_by}
 use Rattle.dfs_host.specs.Host.{bytes_of}
 use Rattle.dfs_record.specs.Delta.{delta}
 use Rattle.dfs_table.specs.Stored.{IsStored}
-use Rattle.dfs_table.specs.Writer.{WriterState, pushed, table_len, wrote}
+use Rattle.dfs_table.specs.Writer.{AddsTable, WriterState, pushed, table_len, wrote}
 use Rattle.dfs_table.proofs.Rising.{is_stored}
 use Rattle.dfs_table.proofs.writer.TableWriter.finish.Goals as goal
 
@@ -25,3 +25,16 @@ returns-clause-wrote g c =
       ap (λ (w : WriterState). sum_by table_len w.closed) c.writer-2.view_is,
       ap (λ (w : WriterState). wrote w) c.writer.view_is,
     )
+
+pub returns-clause-last : goal.returns-clause-last
+returns-clause-last g c = λ some.
+    let added = c.in_ok-close.ensures.last (subst (λ (w : WriterState). 1 ≤ length w.records) (sym c.writer.view_is) some) in
+    let here : AddsTable c.args.self c.close.new.self.closed =
+    record {
+      table = added.table;
+      fence = added.fence;
+      tables = added.tables ∙ ap (λ (w : WriterState). w.closed ++ added.table ∷ []) c.writer.view_is;
+      fences = added.fences ∙ ap (λ (w : WriterState). w.fences ++ added.fence ∷ []) c.writer.view_is;
+      count = added.count ∙ ap (λ (w : WriterState). length w.records) c.writer.view_is;
+    } in
+    subst (λ (w : WriterState). AddsTable c.args.self w.closed) (sym c.writer-2.view_is) here

@@ -3,7 +3,7 @@ use Rattle.std.proofs.lemmas.List.{length-append}
 use Rattle.dfs_table.specs.Writer.{WriterState}
 use Rattle.dfs_table.proofs.Appends.{goes_on}
 use Rattle.dfs_table.proofs.Lengths.{block_cost, index_cost}
-use Rattle.dfs_table.proofs.Steps.{after_block, after_both, block_owed, ready_after_block, ready_after_table, rises_after_block, same_after_block, same_after_both, table_owed}
+use Rattle.dfs_table.proofs.Steps.{added_block, added_block_before, after_block, after_both, block_owed, ready_after_block, ready_after_table, rises_after_block, same_after_block, same_after_both, table_owed}
 use Rattle.dfs_table.proofs.writer.TableWriter.next_block.Goals as goal
 
 pub returns-in_err-close_block-clause-growth_at_most : goal.returns-in_err-close_block-clause-growth_at_most
@@ -24,6 +24,9 @@ returns-then-len-lt-MOST_BLOCKS-clause-ready g c =
     let ensured = c.in_ok-close_block.ensures in
     ready_after_block ensured.closes c.requires.sound c.requires.some ensured.same.0
     (omega (arith, c.if-len-lt-MOST_BLOCKS.true, c.len.ensures.len, ap (λ (w : WriterState). length w.fences) c.self.view_is))
+
+pub returns-then-len-lt-MOST_BLOCKS-clause-block : goal.returns-then-len-lt-MOST_BLOCKS-clause-block
+returns-then-len-lt-MOST_BLOCKS-clause-block g c = added_block c.in_ok-close_block.ensures.closes
 
 pub returns-then-len-lt-MOST_BLOCKS-clause-growth : goal.returns-then-len-lt-MOST_BLOCKS-clause-growth
 returns-then-len-lt-MOST_BLOCKS-clause-growth g c =
@@ -69,6 +72,9 @@ returns-then-may_begin-clause-ready g c =
       c.requires.sound.few,
     ))
     (c.if-may_begin.ensures.0 refl)
+
+pub returns-then-may_begin-clause-block : goal.returns-then-may_begin-clause-block
+returns-then-may_begin-clause-block g c = added_block_before c.in_ok-close_block.ensures.closes c.in_ok-close_table.ensures.closes
 
 pub returns-then-may_begin-clause-growth : goal.returns-then-may_begin-clause-growth
 returns-then-may_begin-clause-growth g c =

@@ -6,6 +6,7 @@ pub mod Joining
 pub mod Lengths
 pub mod Opening
 pub mod Rising
+pub mod Running
 pub mod Searching
 pub mod Starts
 pub mod Stays

@@ -31,12 +31,12 @@ first_below : (f g : Fence) (fs : List Fence) → AllByRecursion IsFence (f ∷ 
 first_below f g fs each apart = at_most_below f.first f.last g.first each.0.order apart.0
 
 -- the first key and the last one of fences
-record HasEnds (fs : List Fence) : Type 0 where
-  first : Key
-  last : Key
-  begins : first_begin fs ≡ Some first
-  ends : last_end fs ≡ Some last
-  order : IsAtMost first last
+pub record HasEnds (fs : List Fence) : Type 0 where
+  pub first : Key
+  pub last : Key
+  pub begins : first_begin fs ≡ Some first
+  pub ends : last_end fs ≡ Some last
+  pub order : IsAtMost first last
 
 has_ends : (fs : List Fence) → 1 ≤ length fs → AllByRecursion IsFence fs → AreApart fs → HasEnds fs
 has_ends [] some each apart = absurd (omega (arith, some))
@@ -94,7 +94,7 @@ span_last t key h s = subst (λ o. IsSomeAnd o (IsAtMost key)) h.ends s.last
 ends_by : (t : Table) (key : Key) (h : HasEnds t.fences) → IsBelow h.last key → ends_below key t ≡ true
 ends_by t key h lt = ap (λ o. is_above o key) h.ends ∙ ap is_lt lt
 
-end_below : (t : Table) (key : Key) (h : HasEnds t.fences) → ends_below key t ≡ true → IsBelow h.last key
+pub end_below : (t : Table) (key : Key) (h : HasEnds t.fences) → ends_below key t ≡ true → IsBelow h.last key
 end_below t key h e = less (key_cmp h.last key) (ap (λ o. is_above o key) (sym h.ends) ∙ e)
 
 -- ---- tables that rise
@@ -118,7 +118,7 @@ ends_at ts are = here ts are.each are.some
     here (t ∷ ts) each some zero d below = has_ends t.fences some.0 each.0.each each.0.apart
     here (t ∷ ts) each some (suc i) d below = here ts each.1 some.1 i d (omega (arith, below))
 
-behind : (t : Table) (ts : List Table) → AreTables (t ∷ ts) → AreTables ts
+pub behind : (t : Table) (ts : List Table) → AreTables (t ∷ ts) → AreTables ts
 behind t ts are = record { each = are.each.1; some = are.some.1; rise = apart_drop t.fences (all_fences ts) are.rise }
 
 -- a table ends below each one behind it
@@ -169,7 +169,7 @@ stands_there ts key n are point i at =
 pub none_there : (ts : List Table) (key : Key) (n : ℕ) → AreTables ts → IsEndsPoint ts key n → length ts ≤ n → NoneSpans ts key
 none_there ts key n are point past i at = absurd (omega (arith, past, stands_there ts key n are point i at, slice_get_within ts i at.0 at.1.0))
 
-ends_here : (ts : List Table) (n : ℕ) (t : Table) → AreTables ts → slice_get ts n ≡ Some t → HasEnds t.fences
+pub ends_here : (ts : List Table) (n : ℕ) (t : Table) → AreTables ts → slice_get ts n ≡ Some t → HasEnds t.fences
 ends_here ts n t are at = subst (λ (u : Table). HasEnds u.fences) (get_or_from_slice_get ts n t t at) (ends_at ts are n t (slice_get_within ts n t at))
 
 pub has_first : (ts : List Table) (n : ℕ) (t : Table) → AreTables ts → slice_get ts n ≡ Some t → 0 < length t.fences

@@ -2,6 +2,7 @@ pub mod Appending
 pub mod Counts
 pub mod Identities
 pub mod Opened
+pub mod RunRecords
 pub mod Spans
 pub mod Starts
 pub mod Stored

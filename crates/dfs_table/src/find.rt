@@ -1,18 +1,19 @@
 //! Look-ups in a table.
 
-ghost use Rattle.std.specs.Prelude.{◌≡◌, ◌<◌, ℕ, List, length, slice_get, option_map, Some, IfOk, IfSome, IsSomeAnd, IsErrOf};
+ghost use Rattle.std.specs.Prelude.{◌≡◌, ◌<◌, ℕ, List, length, drop, slice_get, option_copied, option_map, Some, IfOk, IfSome, IsSomeAnd, IsErrOf};
+ghost use Rattle.dfs_table.specs.RunRecords.{BeginsIn, Reaches};
 ghost use Rattle.dfs_host.specs.Host.{Told, bytes_of};
 ghost use Rattle.dfs_record.specs.Delta.{last_value};
 ghost use Rattle.dfs_record.specs.Lend.{key_of, value_of};
 ghost use Rattle.dfs_record.specs.Record.{IsValue};
 ghost use Rattle.dfs_host.specs.declared.fault.Fault.{Fault as AnyFault};
 ghost use Rattle.dfs_fence.specs.declared.fence.Fence.{Fence};
-ghost use Rattle.dfs_table.specs.Stored.{IsTableOf, block_at, records_at, table_records};
+ghost use Rattle.dfs_table.specs.Stored.{IsTableOf, block_at, blocks_by, records_at, table_records};
 
 use crate::Table;
 use dfs_block::Block;
 use dfs_host::{Fault, Host};
-use dfs_record::{KeyRef, Value, ValueRef};
+use dfs_record::{Key, KeyRef, Value, ValueRef};
 use std::alloc::Global;
 
 impl Table {
@@ -57,6 +58,27 @@ impl Table {
         ensures block { (file : List ℕ) (f : Fence) → IsTableOf file self.now → slice_get self.now.fences index ≡ Some f → IsSomeAnd result (λ block. block ≡ records_at file f) }
     {
         Block::read(self.block_bytes(index)?)
+    }
+
+    // The number of the first block that does not end below the low end, and the bytes of the blocks from it on.
+    pub(crate) fn from(&self, low: Option<&Key>) -> (usize, &[u8])
+        ensures { (file : List ℕ) → IsTableOf file self.now → Reaches (option_copied low.entry) self.now → BeginsIn (option_copied low.entry) file self.now result.0 result.1.now }
+    {
+        let (next, _) = self.fences.range(low, None);
+        (next, self.bytes_from(next))
+    }
+
+    // The bytes of the blocks from the one with this number on.
+    fn bytes_from(&self, index: usize) -> &[u8]
+        ensures { (file : List ℕ) → IsTableOf file self.now → index < length self.now.fences → result.now ≡ blocks_by file (drop index self.now.fences) }
+    {
+        if index >= self.starts.len() {
+            return &[];
+        }
+        let Some((_, bytes)) = self.blocks.bytes().split_at_checked(self.starts[index]) else {
+            return &[];
+        };
+        bytes
     }
 
     // The bytes of the block with this number, where the table has them.

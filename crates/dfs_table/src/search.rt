@@ -1,12 +1,13 @@
 //! Look-ups among the tables of a run.
 
-ghost use Rattle.std.specs.Prelude.{◌≡◌, ◌≤◌, ◌↔◌, ℕ, length, Some, None, IfSome};
+ghost use Rattle.std.specs.Prelude.{◌≡◌, ◌≤◌, ◌↔◌, ℕ, length, drop, option_copied, Some, None, IfSome};
+ghost use Rattle.dfs_table.specs.RunRecords.{IsFirstTable};
 ghost use Rattle.dfs_record.specs.Lend.{key_of};
 ghost use Rattle.dfs_table.specs.Spans.{IsEndsPoint, NoneSpans, SpansAt, ends_below as is_end_below};
 ghost use Rattle.dfs_table.specs.Tables.{AreTables};
 
 use crate::{Table, Tables};
-use dfs_record::KeyRef;
+use dfs_record::{Key, KeyRef};
 
 impl Tables {
     /// The number of the one table that spans the key: its first key is at most the key and its last one at least. `None` exactly
@@ -25,6 +26,19 @@ impl Tables {
             return None;
         }
         Some(index)
+    }
+
+    // The tables from the first on that does not end below the low end.
+    pub(crate) fn from(&self, low: Option<&Key>) -> &[Table]
+        ensures tables { (n : ℕ) × IsFirstTable (option_copied low.entry) self.now n × (result.now ≡ drop n self.now) }
+        ensures rise { AreTables self.now }
+    {
+        let index = match low {
+            Some(low) => self.ending_below(low.lend()),
+            None => 0,
+        };
+        let (_, tables) = self.tables.split_at(index);
+        tables
     }
 
     // How many tables end below the key.

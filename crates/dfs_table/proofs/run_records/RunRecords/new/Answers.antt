@@ -1,0 +1,16 @@
+use Rattle.std.proofs.Common.{sym, ◌∙◌, ap, ◌++◌}
+use Rattle.std.specs.Prelude.{option_copied}
+use Rattle.dfs_block.proofs.Spelled.{front_zero}
+use Rattle.dfs_table.specs.RunRecords.{records_in, blocks_left}
+use Rattle.dfs_table.proofs.Running.{begun_rest, meeting_rises}
+use Rattle.dfs_table.proofs.run_records.RunRecords.new.Goals as goal
+
+pub returns-clause-rest : goal.returns-clause-rest
+returns-clause-rest c = λ file each.
+    let blocks = c.in_ok-blocks.blocks in
+    begun_rest c.take-records.result _ _ _ c.take-records.ensures.taken
+    (ap (λ l. l ++ records_in (blocks_left blocks.high blocks.tables.now blocks.next blocks.bytes.now)) (front_zero _) ∙ c.in_ok-blocks.ensures.blocks file each)
+    (meeting_rises (option_copied c.args.low) (option_copied c.args.high) file c.args.run.now.tables c.new.ensures.tables each)
+
+pub returns-clause-comes : goal.returns-clause-comes
+returns-clause-comes c = λ files number each. sym (returns-clause-rest c (files number) each)

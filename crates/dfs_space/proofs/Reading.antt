@@ -4,7 +4,7 @@ use Rattle.dfs_host.specs.declared.fault.Fault.{Fault}
 use Rattle.dfs_host.specs.declared.fault.Fault.TheVariants.{NoMemory, LogFull}
 use Rattle.dfs_record.specs.declared.Record.{Record}
 use Rattle.dfs_record.specs.Namespace.{Namespace}
-use Rattle.dfs_space.specs.Space.{SpaceState, IsReady, HasSpaceCause, HasRead}
+use Rattle.dfs_space.specs.Space.{SpaceState, IsReady, HasRead}
 use Rattle.dfs_space.proofs.Causes.{cause_passed, cause_answered, cause_on, cause_of_no_memory, cause_of_none, none_yet, none_of, ready_on}
 
 module _ {S : Type 0} {StandsFor : S → Namespace → Type 0} {follows : S → S → List Record → Type 0} {state : S → SpaceState} where

@@ -10,10 +10,12 @@
 mod listing;
 mod plain;
 mod space;
+mod span;
 
 pub use listing::Listing;
 pub use plain::PlainSpace;
 pub use space::Space;
+pub use span::{first_key, next_dir};
 
 #[cfg(test)]
 mod tests;

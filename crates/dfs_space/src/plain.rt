@@ -7,9 +7,9 @@ ghost use Rattle.dfs_space.specs.Children.{child_of, children, has_child};
 ghost use Rattle.dfs_space.specs.PlainSpace.{IsStored};
 ghost use Rattle.dfs_space.specs.Span.{first_key, next_dir, end_of};
 
-use crate::{Listing, Space};
+use crate::{Listing, Space, first_key, next_dir};
 use dfs_host::Fault;
-use dfs_record::{DirId, Entry, Key, Name, NoMemory, Record, Value};
+use dfs_record::{DirId, Entry, Key, NoMemory, Record, Value};
 use std::alloc::Global;
 use std::collections::BTreeMap;
 use std::collections::btree_map::Range;
@@ -105,43 +105,14 @@ fn listed(alloc: Global, entries: Range<'_, Key, Entry>) -> Result<Listing, NoMe
 fn span(alloc: Global, dir: DirId) -> Result<(Bound<Key>, Bound<Key>), NoMemory>
     ensures { IfOk result (λ span. span ≡ (Included (first_key dir), end_of (next_dir dir))) }
 {
-    let start = least_key(alloc, dir)?;
-    match next(dir) {
+    let start = first_key(alloc, dir)?;
+    match next_dir(dir) {
         Some(next) => {
-            let end = least_key(alloc, next)?;
+            let end = first_key(alloc, next)?;
             Ok((Bound::Included(start), Bound::Excluded(end)))
         }
         None => Ok((Bound::Included(start), Bound::Unbounded)),
     }
-}
-
-// The least key that a directory may have.
-fn least_key(alloc: Global, dir: DirId) -> Result<Key, NoMemory>
-    ensures { IfOk result (λ key. key ≡ first_key dir) }
-{
-    match Name::new(alloc, &[1]) {
-        Ok(name) => Ok(Key { parent: dir, name }),
-        Err(_) => Err(NoMemory),
-    }
-}
-
-// The identity that comes next in the order.
-fn next(dir: DirId) -> Option<DirId>
-    ensures { result ≡ next_dir dir }
-{
-    if dir.counter < u32::MAX {
-        return Some(DirId {
-            job: dir.job,
-            counter: dir.counter + 1,
-        });
-    }
-    if dir.job < u32::MAX {
-        return Some(DirId {
-            job: dir.job + 1,
-            counter: 0,
-        });
-    }
-    None
 }
 
 /// It tells, and answers no fault but `NoMemory`.

@@ -1,4 +1,4 @@
-use Rattle.std.proofs.Common.{◌≡◌, ◌∷◌, map, All, subst}
+use Rattle.std.proofs.Common.{All, subst}
 use Rattle.std.proofs.lemmas.List.Elements.{All-tail}
 use Rattle.dfs_space.specs.PlainSpace.{IsStored}
 use Rattle.dfs_space.proofs.Stored.{child_stored, one_listed}

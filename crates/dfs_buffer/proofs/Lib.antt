@@ -2,3 +2,4 @@ pub mod Rising
 pub mod Places
 pub mod Edits
 pub mod Puts
+pub mod Parts

@@ -1,17 +1,18 @@
 //! The buffer.
 
-ghost use Rattle.std.specs.Prelude.{◌≡◌, ◌↔◌, List, [], ◌∷◌, ◌++◌, option_copied, IfSome, OnOk, OnErr};
+ghost use Rattle.std.specs.Prelude.{◌≡◌, ◌↔◌, List, [], ◌∷◌, ◌++◌, option_copied, IfSome, OnOk, OnErr, Some, None};
 ghost use Rattle.dfs_record.specs.declared.Record.{Record as OwnRecord};
 ghost use Rattle.dfs_record.specs.Delta.{records_of, last_value};
 ghost use Rattle.dfs_record.specs.KeyMap.{get};
 ghost use Rattle.dfs_record.specs.Lend.{key_of};
 ghost use Rattle.dfs_record.specs.Record.{IsRecord, IsValue};
 ghost use Rattle.dfs_record.specs.Records.{Files};
+ghost use Rattle.dfs_cursor.specs.Ranges.{part};
 ghost use Rattle.dfs_buffer.specs.Buffer.{nothing, after_put, StandsFor};
 
-use crate::chunks::{find, put};
+use crate::chunks::{find, from_key, put};
 use crate::cursor::BufferRecords;
-use dfs_record::{KeyRef, NoMemory, Record, Records, Value};
+use dfs_record::{Key, KeyRef, NoMemory, Record, Records, Value};
 use std::alloc::Global;
 use std::marker::Model;
 
@@ -77,6 +78,16 @@ impl Buffer {
         ensures comes { (files : Files) (l : List OwnRecord) → ⟦<BufferRecords<'a> as Records>⟧.Comes result files l ↔ (l ≡ records_of self.now.held) }
     {
         BufferRecords::new(&self.chunks)
+    }
+
+    /// The same from the key on: those whose keys are not below it. The first is found by halves.
+    pub fn records_from<'a>(&'a self, low: &Key) -> BufferRecords<'a>
+        ensures rest { ⟦<BufferRecords<'a> as Records>⟧.rest result ≡ part (Some low.now) None (records_of self.now.held) }
+        ensures unread { ⟦<BufferRecords<'a> as Records>⟧.unread result ≡ 0 }
+        ensures comes { (files : Files) (l : List OwnRecord) → ⟦<BufferRecords<'a> as Records>⟧.Comes result files l ↔ (l ≡ part (Some low.now) None (records_of self.now.held)) }
+    {
+        let (records, behind) = from_key(&self.chunks, low.lend());
+        BufferRecords::over(records, behind)
     }
 
     /// How many records were put since the buffer was cleared, counted up to the greatest `u32`.

@@ -1,6 +1,6 @@
 //! Records in rising order of their keys, in chunks of a limited length.
 
-ghost use Rattle.std.specs.Prelude.{◌≡◌, ◌<◌, ◌≤◌, List, [], ◌∷◌, ◌++◌, length, IsTrue, IsFalse, MatchBool, take, drop, flat_map, All, MatchResult, HoldsAt, true, false, OnOk, OnErr, option_copied, IfSome};
+ghost use Rattle.std.specs.Prelude.{◌≡◌, ◌<◌, ◌≤◌, List, [], ◌∷◌, ◌++◌, length, IsTrue, IsFalse, MatchBool, take, drop, flat_map, All, MatchResult, HoldsAt, true, false, OnOk, OnErr, option_copied, IfSome, Some, None};
 ghost use Rattle.std.specs.List.Sorted.{IsPartitionPoint};
 ghost use Rattle.dfs_record.specs.declared.Record.{Record as OwnRecord};
 ghost use Rattle.dfs_record.specs.Delta.{delta, with_record};
@@ -9,6 +9,7 @@ ghost use Rattle.dfs_record.specs.KeyMap.{get};
 ghost use Rattle.dfs_record.specs.Lend.{key_of};
 ghost use Rattle.dfs_record.specs.Record.{IsRecord, IsValue};
 ghost use Rattle.dfs_record.specs.Records.{KeysRise};
+ghost use Rattle.dfs_cursor.specs.Ranges.{part};
 ghost use Rattle.dfs_buffer.specs.Chunks.{AreBelow, AreAbove, AreChunks, IsPlace, IsReplaced, begins_up_to, chunk_at, before, from};
 
 use dfs_record::{KeyRef, NoMemory, Record, Value};
@@ -228,4 +229,20 @@ pub(crate) fn find<'a>(chunks: &'a [Vec<Record>], key: KeyRef<'_>) -> Option<&'a
     let records = chunks.get(place.chunk)?;
     let rec = records.get(place.index)?;
     Some(&rec.value)
+}
+
+/// The records from the key on: those of the chunk where it stands, and the chunks behind that one.
+pub(crate) fn from_key<'a>(
+    chunks: &'a [Vec<Record>],
+    key: KeyRef<'_>,
+) -> (&'a [Record], &'a [Vec<Record>])
+    requires { AreChunks (λ c. c.items) chunks.now }
+    ensures records { result.0.now ++ flat_map (λ c. c.items) result.1.now ≡ part (Some (key_of key.entry)) None (flat_map (λ c. c.items) chunks.now) }
+    ensures filled { All (λ c. 0 < length c.items) result.1.now }
+{
+    let place = place_of(chunks, key);
+    match chunks.get(place.chunk) {
+        None => (&[], &[]),
+        Some(records) => (&records[place.index..], &chunks[place.chunk + 1..]),
+    }
 }

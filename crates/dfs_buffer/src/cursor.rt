@@ -32,7 +32,7 @@ impl<'a> BufferRecords<'a> {
     }
 
     /// The first chunk is begun where no record stands before the chunks.
-    fn over(records: &'a [Record], behind: &'a [Vec<Record>]) -> BufferRecords<'a>
+    pub(crate) fn over(records: &'a [Record], behind: &'a [Vec<Record>]) -> BufferRecords<'a>
         requires rises { KeysRise (records.now ++ flat_map (λ c. c.items) behind.now) }
         requires valid { All IsRecord (records.now ++ flat_map (λ c. c.items) behind.now) }
         requires filled { All (λ c. 0 < length c.items) behind.now }

@@ -87,3 +87,40 @@ fn each_key_once_with_its_last_value(rt: HostRuntime) -> Result<(), Fail> {
     assert!(rt; parents(alloc, buffer.records())?.is_empty());
     Ok(())
 }
+
+/// Directories with the even numbers from 2 on.
+#[test]
+fn from_the_key_on(rt: HostRuntime) -> Result<(), Fail> {
+    let alloc = rt.alloc();
+    let rows: [(u16, u32, u16); 10] = [
+        (200, 0, 0),
+        (200, 2, 0),
+        (200, 3, 1),
+        (200, 200, 99),
+        (200, 201, 100),
+        (200, 400, 199),
+        (200, 401, 200),
+        (1, 2, 0),
+        (1, 3, 1),
+        (0, 2, 0),
+    ];
+    for (count, low, first) in rows {
+        let mut buffer = Buffer::new(alloc);
+        for step in 0..count {
+            let number = u32::from(step) * 71 % u32::from(count);
+            buffer.put(record(alloc, number * 2 + 2, None)?)?;
+        }
+        let mut expected = Vec::new(alloc);
+        for number in first..count {
+            expected.push(u32::from(number) * 2 + 2)?;
+        }
+        let key = record(alloc, low, None)?.key;
+        let found = parents(alloc, buffer.records_from(&key))?;
+        assert_eq!(rt;
+            found.as_slice(),
+            expected.as_slice(),
+            "{count} records, from {low}"
+        );
+    }
+    Ok(())
+}

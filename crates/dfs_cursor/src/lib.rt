@@ -6,9 +6,11 @@
 //! The definitions stand in `specs/`: the part between two keys, and what is unread of it, in `Ranges`.
 #![tactic(auto)]
 
+mod either;
 mod ranges;
 mod slices;
 
+pub use either::EitherRecords;
 pub use ranges::RangeRecords;
 pub use slices::SliceRecords;
 

@@ -64,3 +64,17 @@ fn from_the_lower_end_up_to_the_upper(rt: HostRuntime) -> Result<(), Fail> {
     }
     Ok(())
 }
+
+#[test]
+fn two_kinds_in_one_list(rt: HostRuntime) -> Result<(), Fail> {
+    let alloc = rt.alloc();
+    let records = [deletion(alloc, b'b')?, deletion(alloc, b'd')?];
+    let low = deletion(alloc, b'c')?.key;
+    let slice = SliceRecords::new(&records);
+    let part = RangeRecords::new(SliceRecords::new(&records), Some(&low), None);
+    let sources = [EitherRecords::First(part), EitherRecords::Second(slice)];
+    for (source, expected) in sources.into_iter().zip([b"d".as_slice(), b"bd"]) {
+        assert_eq!(rt; names(alloc, source)?.as_slice(), expected);
+    }
+    Ok(())
+}

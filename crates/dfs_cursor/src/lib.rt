@@ -1,9 +1,11 @@
 //! Cursors: sources of records that stand over a slice, and over a part of another source.
 //!
 //! The layer above sees each of them by the meanings of `Records`. `SliceRecords` has the records of its slice,
-//! and `RangeRecords` has of another source what lies from one key up to, not with, another.
+//! `RangeRecords` has of another source what lies from one key up to, not with, another, and `EitherRecords` is a
+//! source of one kind or of another.
 //!
-//! The definitions stand in `specs/`: the part between two keys, and what is unread of it, in `Ranges`.
+//! The definitions stand in `specs/`: the part between two keys, and what is unread of it, in `Ranges`, and what a
+//! meaning of two kinds gives in `Either`.
 #![tactic(auto)]
 
 mod either;

@@ -1,5 +1,5 @@
 pub mod Causes
 mod Entries
 pub mod Reading
-mod Spans
+pub mod Spans
 mod Stored

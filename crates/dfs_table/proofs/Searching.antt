@@ -202,7 +202,7 @@ begins_above ts key n t f are point at front above i spans =
 -- ---- the value of a key
 
 -- a table that does not span the key has no record with it
-outside : (file : List ℕ) (t : Table) (key : Key) → IsTableOf file t → ¬ (Spans t key) → last_value key (table_records file t) ≡ None
+pub outside : (file : List ℕ) (t : Table) (key : Key) → IsTableOf file t → ¬ (Spans t key) → last_value key (table_records file t) ≡ None
 outside file t key is out =
     let are = is.index.index.fences in
     let h = has_ends t.fences is.index.index.some are.each are.apart in

@@ -13,8 +13,8 @@ ghost use Rattle.dfs_table.specs.Writer.{AreIn, WriterStands};
 
 use super::*;
 use dfs_mem::MemHost;
-use dfs_record::{DirId, Entry, Key, Name, Record, Reference};
-use dfs_table::{OpenFault, Run, Table};
+use dfs_record::{DirId, Entry, Head, Key, Name, Record, Records, Reference, ValueRef};
+use dfs_table::{OpenFault, Run, RunRecords, Table};
 use std::process::Abort;
 use std::test::Fail;
 
@@ -418,5 +418,61 @@ fn no_table_left(rt: HostRuntime) -> Result<(), Fail> {
         .ok_or("refused")?;
     assert_eq!(rt; written.run.tables.len(), 0);
     assert_eq!(rt; written.host.file(1).len(), 12);
+    Ok(())
+}
+
+// The numbers of the files that a cursor has to its end.
+fn numbers(alloc: Global, mut records: RunRecords<'_>) -> Result<Vec<u64>, Fail> {
+    let mut numbers = Vec::new(alloc);
+    for _ in 0..100 {
+        match records.head() {
+            Head::Item(rec) => {
+                if let ValueRef::File { size, .. } = rec.value {
+                    numbers.push(size)?;
+                }
+            }
+            Head::Hungry | Head::End => break,
+        }
+        records.advance();
+    }
+    Ok(numbers)
+}
+
+fn end(alloc: Global, number: Option<u32>) -> Result<Option<Key>, Fail> {
+    match number {
+        Some(number) => Ok(Some(root_key(alloc, &padded(number))?)),
+        None => Ok(None),
+    }
+}
+
+#[test]
+fn blocks_that_meet_a_range(rt: HostRuntime) -> Result<(), Fail> {
+    let alloc = rt.alloc();
+    // Three blocks, of the files 0 to 6, 7 to 13 and 14 to 19.
+    let written = files(&rt, alloc, 65_536, 1, 20)?
+        .finish()
+        .ok()
+        .ok_or("refused")?;
+    // The two ends, the first number that comes, and how many come.
+    let rows = [
+        (None, None, 0, 20),
+        (Some(7), None, 7, 13),
+        (Some(6), Some(8), 0, 14),
+        (Some(13), Some(14), 7, 7),
+        (None, Some(7), 0, 7),
+        (Some(8), Some(8), 0, 0),
+        (Some(9), Some(8), 0, 0),
+        (Some(20), None, 0, 0),
+        (None, Some(0), 0, 0),
+    ];
+    for (low, high, first, count) in rows {
+        let (low, high) = (end(alloc, low)?, end(alloc, high)?);
+        let records = RunRecords::new(alloc, &written.run, low.as_ref(), high.as_ref())?;
+        let numbers = numbers(alloc, records)?;
+        assert_eq!(rt;
+            (numbers.first().copied().unwrap_or(0), numbers.len()),
+            (first, count)
+        );
+    }
     Ok(())
 }

@@ -1,6 +1,6 @@
 -- The blocks of a run that meet a range, and what a cursor has of them.
 use Rattle.std.proofs.Common.{◌≡◌, ◌≤◌, ◌<◌, ◌+◌, ◌-◌, ℕ, zero, suc, Bool, true, false, ◌&&◌, not, if◌then◌else◌, List, [], ◌∷◌, ◌++◌, length, take, drop, map, refl, sym, ap, subst, ◌∙◌, arith, length-append, take_all}
-use Rattle.std.specs.Prelude.{Option, Some, None, slice_get, flat_map, filter}
+use Rattle.std.specs.Prelude.{Option, Some, None, slice_get, filter}
 use Rattle.std.specs.List.{AllByRecursion}
 use Rattle.std.specs.Ordering.{is_lt}
 use Rattle.std.proofs.lemmas.List.{drop_at, take_at, map-append}
@@ -10,7 +10,7 @@ use Rattle.dfs_record.specs.declared.Key.{Key}
 use Rattle.dfs_record.specs.declared.Record.{Record}
 use Rattle.dfs_record.specs.declared.RecordRef.{RecordRef}
 use Rattle.dfs_record.specs.Key.{key_cmp}
-use Rattle.dfs_record.specs.Lend.{key_of, record_of}
+use Rattle.dfs_record.specs.Lend.{record_of}
 use Rattle.dfs_record.specs.Records.{KeysRise, IsBelow}
 use Rattle.dfs_block.proofs.Rising.{below_second, rise_behind}
 use Rattle.dfs_fence.specs.declared.fence.Fence.{Fence}
@@ -26,7 +26,7 @@ use Rattle.dfs_table.specs.Stored.{IsBlockOf, IsTableOf, block_at, blocks_by, re
 use Rattle.dfs_table.specs.Tables.{AreTables, all_fences}
 use Rattle.dfs_table.specs.Spans.{ends_below}
 use Rattle.dfs_table.proofs.Finding.{block_len, each_at}
-use Rattle.dfs_table.proofs.Searching.{HasEnds, behind, end_below, ends_here}
+use Rattle.dfs_table.proofs.Searching.{behind, end_below, ends_here}
 use Rattle.dfs_table.proofs.Rising.{all_blocks, blocks_rise}
 use Rattle.dfs_table.proofs.Stays.{all_append, all_weaker}
 
@@ -211,8 +211,7 @@ slice_get_none (x ∷ xs) zero at = absurd cc
 slice_get_none (x ∷ xs) (suc n) at = omega (arith, slice_get_none xs n at)
 
 module _ (file : List ℕ) (low high : Option Key) (t : Table) (ts : List Table) (next : ℕ) (bytes : List ℕ) (begins : BeginsIn low file t next bytes)
-  (room : has_room low high ≡ true) (are : AreTables (t ∷ ts)) (each : AllByRecursion (IsTableOf file) (t ∷ ts)) where
-
+    (room : has_room low high ≡ true) (are : AreTables (t ∷ ts)) (each : AllByRecursion (IsTableOf file) (t ∷ ts)) where
   abbrev rest : List Fence
   rest = drop next t.fences ++ all_fences ts
 
@@ -315,8 +314,7 @@ module _ (file : List ℕ) (t : Table) (i start : ℕ) (is : IsTableOf file t) (
   from_start = ap (drop start) is.blocks ∙ bytes_behind file t.fences 0 i start is.each in_starts
 
 module _ (low : Option Key) (file : List ℕ) (t : Table) (next end : ℕ) (bytes : List ℕ) (those : AreThoseThatMeet low None t.fences (next, end)) (reach : Reaches low t)
-  (bytes_are : next < length t.fences → bytes ≡ blocks_by file (drop next t.fences)) where
-
+    (bytes_are : next < length t.fences → bytes ≡ blocks_by file (drop next t.fences)) where
   last_meets : (next ≤ length t.fences - 1) × (length t.fences - 1 < end)
   last_meets = by (slice_get t.fences (length t.fences - 1)) refl
     where

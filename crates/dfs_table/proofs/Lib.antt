@@ -11,3 +11,4 @@ pub mod Searching
 pub mod Starts
 pub mod Stays
 pub mod Steps
+pub mod Writings

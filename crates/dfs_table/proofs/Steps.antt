@@ -146,9 +146,12 @@ full_length : (ts : List Table) → AllByRecursion IsFull ts → length (all_fen
 full_length [] all = omega arith
 full_length (t ∷ ts) all = omega (arith, length-append t.fences (all_fences ts), full_length ts all.1, all.0)
 
--- each closed table has 4,096 blocks
+-- each closed table has 4,096 blocks, and each block a record
+pub blocks_enough : (w : WriterState) → IsSound w → 4096 * length w.closed + length w.fences + length w.records ≤ count_in w
+blocks_enough w sound = omega (arith, counts_some (fences_of w) sound.some, length-append (all_fences w.closed) w.fences, full_length w.closed sound.full)
+
 pub closed_enough : (w : WriterState) → IsSound w → 4096 * length w.closed ≤ count_in w
-closed_enough w sound = omega (arith, counts_some (fences_of w) sound.some, length-append (all_fences w.closed) w.fences, full_length w.closed sound.full)
+closed_enough w sound = omega (arith, blocks_enough w sound)
 
 -- ---- what the steps wrote
 

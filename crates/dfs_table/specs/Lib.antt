@@ -9,3 +9,4 @@ pub mod Stored
 pub mod Steps
 pub mod Tables
 pub mod Writer
+pub mod Written

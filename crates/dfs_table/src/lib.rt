@@ -18,6 +18,7 @@ mod run_records;
 mod search;
 mod table;
 mod writer;
+mod writing;
 
 pub use identities::is_within;
 pub use open::OpenFault;
@@ -25,3 +26,4 @@ pub use run::{Run, Tables};
 pub use run_records::RunRecords;
 pub use table::{BlockBytes, Table};
 pub use writer::TableWriter;
+pub use writing::write_run;

@@ -1,0 +1,97 @@
+use Rattle.std.proofs.Common.{◌≡◌, ◌∙◌, ◌++◌, ◌∷◌, [], inl, inr, length, drop, sym, ap, subst, arith, append_assoc}
+use Rattle.std.specs.Prelude.{IfOk}
+use Rattle.std.proofs.lemmas.Result.{err_from_is_err_and}
+use Rattle.dfs_host.specs.Host.{bytes_of}
+use Rattle.dfs_host.proofs.Causes.{none_by}
+use Rattle.dfs_record.specs.Delta.{delta}
+use Rattle.dfs_record.specs.Lend.{record_of}
+use Rattle.dfs_record.specs.Records.{KeysRise}
+use Rattle.dfs_block.specs.Block.{IsAboveLast}
+use Rattle.dfs_table.specs.Counts.{count_of}
+use Rattle.dfs_table.specs.Stored.{IsStored, run_records}
+use Rattle.dfs_table.specs.Tables.{all_fences}
+use Rattle.dfs_table.specs.Writer.{AreIn, IsSound, WriterState, WriterStands, pushed}
+use Rattle.dfs_table.proofs.Writings.{all_written, appends_on, before_on, next_above, none_left, not_too_many, only_on}
+use Rattle.dfs_table.proofs.writing.write_run.Goals as goal
+
+pub loop-rec-preserved : goal.loop-rec-preserved
+loop-rec-preserved g c =
+    let h = c.loop-rec.invariant in
+    let x = c.in_ok-push.ensures in
+    let mid = g.H.Host.state c.loop-rec.host in
+    let new = g.H.Host.state c.push.new.host in
+    let file = c.args.log.now.file in
+    let r = record_of c.in-Item.rec in
+    let rest = g.R.Records.rest c.advance.new.self in
+    let same = h.left.file in
+    let first = c.in-Item.ensures.1.1 in
+    let is : g.R.Records.rest c.loop-rec.records ≡ r ∷ rest = first ∙ ap (λ l. r ∷ l) (sym (c.advance.ensures.rest ∙ ap (drop 1) first)) in
+    let rise : KeysRise (r ∷ rest) = subst KeysRise is (g.met.R.Records.rest_rises c.loop-rec.records) in
+    record {
+      written = λ tells.
+          ap (λ l. l ++ rest)
+          (ap (λ n. pushed (bytes_of new n) c.push.new.self) (sym same) ∙ x.pushed (h.left.only.tells ∙ tells) ∙ ap (λ n. pushed (bytes_of mid n) c.loop-rec.writer ++ r ∷ []) same)
+          ∙ append_assoc (pushed (bytes_of mid file) c.loop-rec.writer) (r ∷ []) rest ∙ ap (λ l. pushed (bytes_of mid file) c.loop-rec.writer ++ l) (sym is) ∙ h.written tells;
+      stands = λ tells. subst (λ n. WriterStands (bytes_of new n) c.push.new.self) same (x.stands (h.left.only.tells ∙ tells));
+      log_stands = λ tells. x.log (h.left.only.tells ∙ tells);
+      sound = subst IsSound c.writer.view_is (c.writer.invariant (ap (λ (w : WriterState). w.spent) c.writer.view_is ∙ x.live.0));
+      above = λ key begins. subst (λ o. IsAboveLast o key) (sym x.last) (next_above r rest rise key begins);
+      count = omega (arith, x.count, h.count, ap length is);
+      tables_left = c.push.ensures.tables_left ∙ h.tables_left;
+      live = x.live.0;
+      log_live = x.live.1;
+      file = subst (λ n. AreIn n c.push.new.self.closed) same x.file;
+      growth = omega (arith, h.growth, x.growth, x.count);
+      left = appends_on new c.requires.stands h.log_stands h.left c.push.ensures.before c.push.ensures.only c.push.ensures.reads c.push.ensures.same.0 c.push.ensures.same.1 c.push.ensures.over;
+      no_fault = none_by h.no_fault c.push.ensures.cause (λ is. cc (is, c.in_ok-push.was));
+    }
+
+pub returns-in_err-push-clause-full : goal.returns-in_err-push-clause-full
+returns-in_err-push-clause-full g c =
+    let p = err_from_is_err_and c.from_residual.result c.from_residual.ensures.1 in (
+      λ is. elim (c.push.ensures.full (cc (is, c.in_err-push.was, p.1, p.2))) [
+        | inl some ↦ some
+        | inr many ↦ absurd (not_too_many c.loop-rec.invariant c.requires.few (omega (arith, ap length c.in-Item.ensures.1.1)) _ many)
+      ],
+      λ some. cc (c.push.ensures.refused some, c.in_err-push.was, p.1, p.2),
+    )
+
+pub returns-in_err-push-clause-before : goal.returns-in_err-push-clause-before
+returns-in_err-push-clause-before g c =
+    let h = c.loop-rec.invariant in
+    before_on (g.H.Host.state c.push.new.host) c.requires.stands h.log_stands h.left c.push.ensures.before
+
+pub returns-in_err-push-clause-only : goal.returns-in_err-push-clause-only
+returns-in_err-push-clause-only g c = only_on c.loop-rec.invariant.left c.push.ensures.only
+
+pub returns-clause-stored : goal.returns-clause-stored
+returns-clause-stored g c tells =
+    let h = c.loop-rec.invariant in
+    let mid = g.H.Host.state c.loop-rec.host in
+    let new = g.H.Host.state c.finish.new.host in
+    let all = all_written h (none_left _ _ c.head.result c.in_default-head.not-Item c.head.ensures) tells in
+    subst (λ l. IfOk c.finish.result (λ run. IsStored (bytes_of new c.args.log.now.file) run (delta l))) all
+    (subst (λ n. IfOk c.finish.result (λ run. IsStored (bytes_of new n) run (delta (pushed (bytes_of mid n) c.loop-rec.writer)))) h.left.file (c.finish.ensures.stored (h.left.only.tells ∙ tells)))
+
+pub returns-clause-records : goal.returns-clause-records
+returns-clause-records g c tells =
+    let h = c.loop-rec.invariant in
+    let mid = g.H.Host.state c.loop-rec.host in
+    let new = g.H.Host.state c.finish.new.host in
+    let all = all_written h (none_left _ _ c.head.result c.in_default-head.not-Item c.head.ensures) tells in
+    subst (λ l. IfOk c.finish.result (λ run. run_records (bytes_of new c.args.log.now.file) run.tables ≡ l)) all
+    (subst (λ n. IfOk c.finish.result (λ run. run_records (bytes_of new n) run.tables ≡ pushed (bytes_of mid n) c.loop-rec.writer)) h.left.file (c.finish.ensures.records (h.left.only.tells ∙ tells)))
+
+pub returns-clause-count : goal.returns-clause-count
+returns-clause-count g c =
+    let h = c.loop-rec.invariant in
+    let none = none_left _ _ c.head.result c.in_default-head.not-Item c.head.ensures in
+    subst (λ n. IfOk c.finish.result (λ run. count_of (all_fences run.tables) ≡ n)) (omega (arith, h.count, ap length none)) c.finish.ensures.count
+
+pub returns-clause-before : goal.returns-clause-before
+returns-clause-before g c =
+    let h = c.loop-rec.invariant in
+    before_on (g.H.Host.state c.finish.new.host) c.requires.stands h.log_stands h.left c.finish.ensures.before
+
+pub returns-clause-only : goal.returns-clause-only
+returns-clause-only g c = only_on c.loop-rec.invariant.left c.finish.ensures.only

@@ -8,12 +8,13 @@ use Rattle.dfs_record.specs.Delta.{Delta, delta}
 use Rattle.dfs_record.specs.Reading.{number_in}
 use Rattle.dfs_record.proofs.Readings.{Reads}
 use Rattle.dfs_block.specs.Block.{IsBlock, first_key, last_key}
-use Rattle.dfs_block.specs.Front.{records_front}
+use Rattle.dfs_block.specs.Front.{first_and, records_front, so_many}
 use Rattle.dfs_fence.specs.declared.fence.Fence.{Fence}
 use Rattle.dfs_fence.specs.Index.{HasFields, IsIndex, fence_bytes}
 use Rattle.dfs_fence.specs.Reading.{fence_at}
 use Rattle.dfs_fence.proofs.Fields.{fences}
 use Rattle.dfs_fence.proofs.Indexes.{all_fields, inside}
+use Rattle.dfs_fence.proofs.Spelled.{some_is}
 use Rattle.dfs_manifest.specs.Manifest.{Extent, IsManifest}
 use Rattle.dfs_manifest.proofs.Manifests.{only}
 use Rattle.dfs_registry.specs.declared.listed.Listed.{Listed}
@@ -22,10 +23,10 @@ use Rattle.dfs_table.specs.Opened.{EndsBy, IsTableAt}
 use Rattle.dfs_table.specs.Stored.{IsBlockOf, block_at, part, records_at, records_by}
 use Rattle.dfs_table.proofs.Stays.{all_append, part_stays}
 use Rattle.dfs_change.specs.Whole.{AreTablesAt, HasChanges, IsWhole, end_of, joined}
-use Rattle.dfs_change.specs.Tests.{is_whole}
-use Rattle.dfs_change.specs.Meant.{DamagedLogsMeanNothing, HasOneChangeSet, NothingBehindMeans, WholeLogsMean, changes_with, counted, fences_at, fences_of, first_and, log_meaning, so_many, tables_at, tables_of}
-use Rattle.dfs_change.proofs.Bools.{passed, some_is}
-use Rattle.dfs_change.proofs.Tests.{whole}
+use Rattle.dfs_change.specs.Checks.{is_whole}
+use Rattle.dfs_change.specs.Meant.{DamagedLogsMeanNothing, HasOneChangeSet, NothingBehindMeans, WholeLogsMean, changes_with, counted, fences_at, fences_in, fences_listed, log_meaning, tables_at, tables_of}
+use Rattle.dfs_change.proofs.Bools.{passed}
+use Rattle.dfs_change.proofs.Checks.{whole}
 
 -- ---- only one list of tables, and of their fences
 
@@ -44,7 +45,7 @@ four_read bytes long = sym (ap (λ b. cond b None (Some (counted bytes))) (le-lt
 only_tables : (bytes : List ℕ) (ts : List Extent) → IsManifest bytes ts → tables_of bytes ≡ ts
 only_tables bytes ts is = only (counted bytes) bytes ts (four_read bytes (Rattle.dfs_manifest.proofs.Manifests.long bytes ts is)) is
 
-only_fences : (bytes : List ℕ) (fs : List Fence) → IsIndex bytes fs → fences_of bytes ≡ fs
+only_fences : (bytes : List ℕ) (fs : List Fence) → IsIndex bytes fs → fences_in bytes ≡ fs
 only_fences bytes fs is =
     let are = inside (counted bytes) bytes fs (four_read bytes (Rattle.dfs_fence.proofs.Indexes.long bytes fs is)) is in
     ap (λ n. so_many fence_at n (drop 4 bytes)) (sym are.number)
@@ -59,6 +60,10 @@ only_all_fences file l (t ∷ ts) (fs ∷ fss) are =
     let first = only_fences (part file t.0 t.1) fs are.0.index.index in
     let rest = only_all_fences file l ts fss are.1 in
     λ i. first i ∷ rest i
+
+-- the tables of a whole log are those that are read from its bytes
+pub only_fences_listed : (file : List ℕ) (l : Listed) (ts : List Extent) (fss : List (List Fence)) → IsWhole file l ts fss → fences_listed file l ≡ fss
+only_fences_listed file l ts fss is = ap (fences_at file) (only_tables (part file l.at l.len) ts is.manifest) ∙ only_all_fences file l ts fss is.tables
 
 -- ---- whole or damaged
 

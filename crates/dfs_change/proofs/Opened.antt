@@ -1,8 +1,8 @@
 -- Tables that a manifest tells of.
-use Rattle.std.proofs.Common.{◌≡◌, ◌≤◌, ◌+◌, ◌++◌, ◌∷◌, [], zero, suc, ℕ, List, take, drop, refl, ◌∙◌, sym, ap, subst, arith, slice_get, Some}
+use Rattle.std.proofs.Common.{◌≡◌, ◌≤◌, ◌+◌, ◌++◌, ◌∷◌, [], zero, suc, ℕ, List, length, take, drop, refl, ◌∙◌, sym, ap, subst, arith, slice_get, Some}
 use Rattle.std.specs.List.{AllByRecursion}
 use Rattle.std.proofs.lemmas.Grind.{flat_map-append}
-use Rattle.std.proofs.lemmas.List.{length-drop, length-take, map-append, take-append-drop, take_more}
+use Rattle.std.proofs.lemmas.List.{length-append, length-drop, length-map, length-take, map-append, take-append-drop, take_more}
 use Rattle.std.proofs.lemmas.Option.{get_or_from_slice_get, slice_get_within}
 use Rattle.dfs_record.specs.Delta.{delta}
 use Rattle.dfs_fence.specs.declared.fence.Fence.{Fence}
@@ -20,8 +20,11 @@ use Rattle.dfs_table.specs.Stored.{part, records_by, run_records, table_records}
 use Rattle.dfs_table.specs.Tables.{AreTables, all_fences}
 use Rattle.dfs_table.proofs.Rising.{all_records}
 use Rattle.dfs_table.proofs.Stays.{all_append}
-use Rattle.dfs_change.specs.Whole.{AreTablesAt, HasChanges, IsDamaged, IsLogged, end_of, joined, table_fences}
+use Rattle.dfs_change.specs.Whole.{AreTablesAt, HasChanges, IsDamaged, IsLogged, IsWhole, end_of, extents_of, joined, reads_of, table_fences}
 use Rattle.dfs_change.proofs.Ended.{joined_fences}
+
+take_next : (ts : List Extent) (i : ℕ) (t : Extent) → slice_get ts i ≡ Some t → take (i + 1) ts ≡ take i ts ++ t ∷ []
+take_next ts i t is = take_more ts i t (slice_get_within ts i t is) ∙ ap (λ (e : Extent). take i ts ++ e ∷ []) (get_or_from_slice_get ts i t t is)
 
 apart_front : (xs ys : List Fence) → AreApart (xs ++ ys) → AreApart xs
 apart_front [] ys apart = tt
@@ -32,6 +35,24 @@ joined_front : (fss : List (List Fence)) (k : ℕ) → AreApart (joined fss) →
 joined_front fss k apart =
     apart_front (joined (take k fss)) (joined (drop k fss))
     (subst AreApart (ap joined (sym (take-append-drop k fss)) ∙ flat_map-append (λ (fs : List Fence). fs) (take k fss) (drop k fss)) apart)
+
+-- where the indexes lie, with one table more
+pub places_next : (ts : List Extent) (i : ℕ) (t : Extent) (tables : List Table) (table : Table) → slice_get ts i ≡ Some t → extents_of tables ≡ take i ts → (table.index_at, table.index_len) ≡ t → extents_of (tables ++ table ∷ []) ≡ take (i + 1) ts
+places_next ts i t tables table is so_far here =
+    map-append (λ (t : Table). (t.index_at, t.index_len)) tables (table ∷ [])
+    ∙ ap (λ es. es ++ (table.index_at, table.index_len) ∷ []) so_far
+    ∙ ap (λ (e : Extent). take i ts ++ e ∷ []) here
+    ∙ sym (take_next ts i t is)
+
+-- how many blocks, with one table more
+pub fences_next : (tables : List Table) (table : Table) → length (all_fences (tables ++ table ∷ [])) ≡ length (all_fences tables) + length table.fences
+fences_next tables table =
+    omega (
+      arith,
+      ap length (flat_map-append (λ (t : Table). t.fences) tables (table ∷ [])),
+      length-append (all_fences tables) (all_fences (table ∷ [])),
+      length-append table.fences [],
+    )
 
 module _ (file : List ℕ) (l : Listed) where
   one_table : (t : Extent) (fs gs : List Fence) → IsTableAt file l.job t.0 t.1 (end_of l) fs → IsTableAt file l.job t.0 t.1 (end_of l) gs → fs ≡ gs
@@ -72,8 +93,7 @@ module _ (file : List ℕ) (l : Listed) where
   pub tables_next : (ts : List Extent) (i : ℕ) (t : Extent) (tables : List Table) (table : Table) → slice_get ts i ≡ Some t → AreTablesAt file l (take i ts) (table_fences tables) → IsTableAt file l.job t.0 t.1 (end_of l) table.fences
       → AreTablesAt file l (take (i + 1) ts) (table_fences (tables ++ table ∷ []))
   tables_next ts i t tables table is so_far here =
-      let more : take (i + 1) ts ≡ take i ts ++ t ∷ [] = take_more ts i t (slice_get_within ts i t is) ∙ ap (λ (e : Extent). take i ts ++ e ∷ []) (get_or_from_slice_get ts i t t is) in
-      subst (λ us. AreTablesAt file l us (table_fences (tables ++ table ∷ []))) (sym more)
+      subst (λ us. AreTablesAt file l us (table_fences (tables ++ table ∷ []))) (sym (take_next ts i t is))
       (subst (λ gss. AreTablesAt file l (take i ts ++ t ∷ []) gss) (sym (map-append (λ (t : Table). t.fences) tables (table ∷ []))) (tables_end (take i ts) (table_fences tables) t table.fences so_far here))
 
   -- no identity in their records is of a later job
@@ -91,18 +111,13 @@ module _ (file : List ℕ) (l : Listed) where
   -- ---- the whole log
 
   module _ (ts : List Extent) (tables : List Table) (manifest : IsManifest (part file l.at l.len) ts) (are : AreTablesAt file l ts (table_fences tables)) where
-    pub changes_by : IsLogged file l → AreTables tables → count_of (all_fences tables) ≡ l.count → HasChanges file l (delta (run_records file tables))
-    changes_by logged of_run count = record {
-      tables = ts;
-      fences = table_fences tables;
-      whole = record {
-        logged = logged;
-        manifest = manifest;
-        tables = are;
-        rise = subst AreApart (sym (joined_fences tables)) of_run.rise;
-        count = ap count_of (joined_fences tables) ∙ count;
-      };
-      changes = ap delta (all_records file tables ∙ ap (records_by file) (sym (joined_fences tables)));
+    pub whole_by : IsLogged file l → AreTables tables → count_of (all_fences tables) ≡ l.count → IsWhole file l ts (table_fences tables)
+    whole_by logged of_run count = record {
+      logged = logged;
+      manifest = manifest;
+      tables = are;
+      rise = subst AreApart (sym (joined_fences tables)) of_run.rise;
+      count = ap count_of (joined_fences tables) ∙ count;
     }
 
     pub other_count : ¬ (count_of (all_fences tables) ≡ l.count) → IsDamaged file l
@@ -111,6 +126,15 @@ module _ (file : List ℕ) (l : Listed) where
         let fences : gss ≡ table_fences tables = one_tables ts gss (table_fences tables) (subst (λ es. AreTablesAt file l es gss) same whole.tables) are in
         other (sym (ap count_of (ap joined fences ∙ joined_fences tables)) ∙ whole.count)
 
+  -- the change set is that of the tables' records
+  pub changes_by : (ts : List Extent) (tables : List Table) → IsWhole file l ts (table_fences tables) → HasChanges file l (delta (run_records file tables))
+  changes_by ts tables whole = record {
+    tables = ts;
+    fences = table_fences tables;
+    whole = whole;
+    changes = ap delta (all_records file tables ∙ ap (records_by file) (sym (joined_fences tables)));
+  }
+
   pub other_tables : (ts : List Extent) → IsManifest (part file l.at l.len) ts → ((fss : List (List Fence)) → AreTablesAt file l ts fss → ¬ (AreApart (joined fss))) → IsDamaged file l
   other_tables ts manifest out us gss whole =
       let same = one_manifest (part file l.at l.len) us ts whole.manifest manifest in
@@ -118,3 +142,7 @@ module _ (file : List ℕ) (l : Listed) where
 
   pub too_long : ¬ (l.len ≤ 1572868) → IsDamaged file l
   too_long long us gss whole = long (omega (arith, short (part file l.at l.len) us whole.manifest, length-take l.len (drop l.at file), length-drop l.at file, whole.logged.inside))
+
+-- one read for each table and each of its blocks, behind two others
+pub reads_in : (tables : List Table) → 2 + (length tables + length (all_fences tables)) ≡ reads_of (table_fences tables)
+reads_in tables = omega (arith, length-map {B = List Fence} tables (λ (t : Table). t.fences), ap length (joined_fences tables))

@@ -6,12 +6,12 @@ use Rattle.dfs_record.specs.declared.Value.TheVariants.{Put}
 use Rattle.dfs_record.specs.Delta.{delta}
 use Rattle.dfs_record.specs.Key.{root}
 use Rattle.dfs_record.specs.Reading.{name_at, id_at, made_at, mode_at, key_at, dir_at, value_at, record_at}
-use Rattle.dfs_block.specs.Front.{records_front}
+use Rattle.dfs_block.specs.Front.{records_front, so_many}
 use Rattle.dfs_fence.specs.Reading.{fence_at}
 use Rattle.dfs_manifest.specs.Tables.{tables_in}
 use Rattle.dfs_registry.specs.declared.listed.Listed.{Listed}
-use Rattle.dfs_change.specs.Tests.{is_whole}
-use Rattle.dfs_change.specs.Meant.{log_meaning, so_many}
+use Rattle.dfs_change.specs.Checks.{is_whole}
+use Rattle.dfs_change.specs.Meant.{log_meaning}
 
 -- the directory 1.1 at the name x of the root
 abbrev made : Record

@@ -78,6 +78,7 @@ not_begun host log all w is stands sound live valid rise = subst (IsWriting host
   log_live = live;
   file = tt;
   growth = omega arith;
+  grown = omega arith;
   left = nothing_yet host log stands (sound.none_refused live);
   no_fault = none_yet host;
 })

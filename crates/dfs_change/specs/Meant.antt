@@ -1,7 +1,8 @@
 -- The change set of a log, as a function of its file.
-use Rattle.std.specs.Prelude.{◌≡◌, ◌↔◌, ◌≤◌, ℕ, zero, suc, if◌then◌else◌, List, [], ◌∷◌, ◌++◌, length, take, drop, map, Option, Some, None}
+use Rattle.std.specs.Prelude.{◌≡◌, ◌↔◌, ◌≤◌, ℕ, if◌then◌else◌, List, ◌++◌, length, take, drop, map, Option, Some, None}
 use Rattle.std.specs.Int.{w32, from_be_bytes}
 use Rattle.dfs_record.specs.Delta.{Delta, delta}
+use Rattle.dfs_block.specs.Front.{so_many}
 use Rattle.dfs_fence.specs.declared.fence.Fence.{Fence}
 use Rattle.dfs_fence.specs.Reading.{fence_at}
 use Rattle.dfs_manifest.specs.Manifest.{Extent}
@@ -9,16 +10,7 @@ use Rattle.dfs_manifest.specs.Tables.{tables_in}
 use Rattle.dfs_registry.specs.declared.listed.Listed.{Listed}
 use Rattle.dfs_table.specs.Stored.{part, records_by}
 use Rattle.dfs_change.specs.Whole.{HasChanges, IsDamaged, end_of, joined}
-use Rattle.dfs_change.specs.Tests.{is_whole}
-
-abbrev pub first_and : {A : Type 0} → Option (A × List ℕ) → (List ℕ → List A) → List A
-first_and None more = []
-first_and (Some x) more = x.0 ∷ more x.1
-
--- up to so many things that the first bytes spell, one after the other
-unfoldable pub so_many : {A : Type 0} → (List ℕ → Option (A × List ℕ)) → ℕ → List ℕ → List A
-so_many read zero bytes = []
-so_many read (suc count) bytes = first_and (read bytes) (λ rest. so_many read count rest)
+use Rattle.dfs_change.specs.Checks.{is_whole}
 
 -- the number in the first four bytes
 abbrev pub counted : List ℕ → ℕ
@@ -29,15 +21,19 @@ abbrev pub tables_of : List ℕ → List Extent
 tables_of bytes = tables_in (counted bytes) (drop 4 bytes)
 
 -- the fences in the bytes of an index
-abbrev pub fences_of : List ℕ → List Fence
-fences_of bytes = so_many fence_at (counted bytes) (drop 4 bytes)
+abbrev pub fences_in : List ℕ → List Fence
+fences_in bytes = so_many fence_at (counted bytes) (drop 4 bytes)
 
 abbrev pub tables_at : List ℕ → Listed → List Extent
 tables_at file l = tables_of (part file l.at l.len)
 
 -- the fences of each table
 abbrev pub fences_at : List ℕ → List Extent → List (List Fence)
-fences_at file ts = map (λ t. fences_of (part file t.0 t.1)) ts
+fences_at file ts = map (λ t. fences_in (part file t.0 t.1)) ts
+
+-- the fences of each table of the log in a file with these bytes
+abbrev pub fences_listed : List ℕ → Listed → List (List Fence)
+fences_listed file l = fences_at file (tables_at file l)
 
 -- the change set of these tables, where with them the log is whole
 abbrev pub changes_with : List ℕ → Listed → List Extent → List (List Fence) → Option Delta
@@ -45,7 +41,7 @@ changes_with file l ts fss = if is_whole file l ts fss then Some (delta (records
 
 -- The change set of the log in a file with these bytes; none where it is damaged.
 unfoldable pub log_meaning : List ℕ → Listed → Option Delta
-log_meaning file l = changes_with file l (tables_at file l) (fences_at file (tables_at file l))
+log_meaning file l = changes_with file l (tables_at file l) (fences_listed file l)
 
 -- ---- laws
 

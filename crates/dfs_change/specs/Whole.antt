@@ -59,3 +59,7 @@ extents_of ts = map (λ t. (t.index_at, t.index_len)) ts
 
 abbrev pub table_fences : List Table → List (List Fence)
 table_fences ts = map (λ t. t.fences) ts
+
+-- How many reads it takes to open a log with these tables: of its header and its manifest, and of each index and each block.
+abbrev pub reads_of : List (List Fence) → ℕ
+reads_of fss = 2 + length fss + length (joined fss)

@@ -10,7 +10,7 @@ use Rattle.dfs_record.specs.Records.{KeysRise}
 use Rattle.dfs_block.specs.Block.{IsAboveLast, first_key, last_key}
 use Rattle.dfs_log.specs.Logs.{LogState, LogStands}
 use Rattle.dfs_table.specs.Appending.{Appends}
-use Rattle.dfs_table.specs.Writer.{AreIn, WriterStands, WriterState, count_in, owed, pushed}
+use Rattle.dfs_table.specs.Writer.{AreIn, WriterStands, WriterState, count_in, owed, pushed, wrote}
 
 -- Of these records all but the rest were given to the writer.
 pub record IsWriting (start now : HostState) (log_start log : LogState) (all rest : List Record) (w : WriterState) : Type 0 where
@@ -27,5 +27,6 @@ pub record IsWriting (start now : HostState) (log_start log : LogState) (all res
   pub log_live : log.spent ≡ false
   pub file : AreIn log_start.file w.closed
   pub growth : log.len + owed w ≤ log_start.len + 1100 * count_in w
+  pub grown : log.len ≡ log_start.len + wrote w
   pub left : Appends start now log_start log
   pub no_fault : NoFault start now

@@ -17,7 +17,7 @@ ghost use Rattle.dfs_table.specs.Tables.{AreTables, all_fences};
 ghost use Rattle.dfs_table.specs.Writer.{AreIn};
 ghost use Rattle.dfs_host.specs.declared.fault.Fault.{Fault as AnyFault};
 ghost use Rattle.dfs_table.specs.declared.open.OpenFault.{OpenFault as AnyOpenFault};
-ghost use Rattle.dfs_change.specs.Whole.{AreTablesAt, HasChanges, IsDamaged, IsLogged, end_of, joined, table_fences};
+ghost use Rattle.dfs_change.specs.Whole.{AreTablesAt, HasChanges, IsDamaged, IsLogged, IsWhole, end_of, extents_of, joined, reads_of, table_fences};
 
 use dfs_host::{Failed, Fault, Host};
 use dfs_manifest::Manifest;
@@ -47,16 +47,21 @@ impl Change {
         ensures changes { Told (H.state host.old) (IfOk result (λ change. HasChanges (bytes_of (H.state host.old) listed.now.job) listed.now (delta (run_records (bytes_of (H.state host.old) listed.now.job) change.value.run.value.tables)))) }
         ensures stored { Told (H.state host.old) (IfOk result (λ change. IsStored (bytes_of (H.state host.old) listed.now.job) change.value.run.value (delta (run_records (bytes_of (H.state host.old) listed.now.job) change.value.run.value.tables)))) }
         ensures within { Told (H.state host.old) (IfOk result (λ change. AllByRecursion (IsWithin listed.now.job) (run_records (bytes_of (H.state host.old) listed.now.job) change.value.run.value.tables))) }
+        // The log is whole with just the tables of the run.
+        ensures whole { Told (H.state host.old) (IfOk result (λ change. IsWhole (bytes_of (H.state host.old) listed.now.job) listed.now (extents_of change.value.run.value.tables) (table_fences change.value.run.value.tables))) }
         ensures listed { IfOk result (λ change. change.value.listed ≡ listed.now) }
         ensures file { IfOk result (λ change. AreIn listed.now.job change.value.run.value.tables) }
         ensures malformed { Told (H.state host.old) (IsErrOf result OpenFault.Malformed → IsDamaged (bytes_of (H.state host.old) listed.now.job) listed.now) }
 
-        // Memory is asked for only where the file is a log and has the manifest's place.
+        // Memory is asked for only where the file is a log and has the manifest's place, and a manifest may be so long.
         ensures memory { Told (H.state host.old) (IsErrOf result (OpenFault.Fault Fault.NoMemory) → IsLogged (bytes_of (H.state host.old) listed.now.job) listed.now) }
+        ensures short { OnOk result (listed.now.len ≤ 1572868) }
+        ensures short_memory { IsErrOf result (OpenFault.Fault Fault.NoMemory) → listed.now.len ≤ 1572868 }
         ensures never_full { IsErrOf result (OpenFault.Fault Fault.LogFull) → ⊥ }
         ensures never_changed { (file at : ℕ) → IsErrOf result (OpenFault.Fault (Fault.Changed file at)) → ⊥ }
         ensures only { OnlyReads (H.state host.old) (H.state host.new) }
         ensures cause { HasOpenCause (H.state host.old) (H.state host.new) result }
+        ensures reads { IfOk result (λ change. RoseBy (reads_of (table_fences change.value.run.value.tables)) (H.state host.old).reads (H.state host.new).reads) }
     {
         let run = open_run(alloc, host, listed)?;
         let copy = Listed {
@@ -87,6 +92,7 @@ fn share(alloc: Global, listed: Listed, run: Run) -> Result<Rc<Change>, OpenFaul
 // The run in the log of an entry.
 fn open_run<H: Host>(alloc: Global, host: &mut H, listed: &Listed) -> Result<Run, OpenFault>
     ensures changes { Told (H.state host.old) (IfOk result (λ run. HasChanges (bytes_of (H.state host.old) listed.now.job) listed.now (delta (run_records (bytes_of (H.state host.old) listed.now.job) run.tables)))) }
+    ensures whole { Told (H.state host.old) (IfOk result (λ run. IsWhole (bytes_of (H.state host.old) listed.now.job) listed.now (extents_of run.tables) (table_fences run.tables))) }
     ensures stored { Told (H.state host.old) (IfOk result (λ run. AllByRecursion (IsTableOf (bytes_of (H.state host.old) listed.now.job)) run.tables)) }
     ensures within { Told (H.state host.old) (IfOk result (λ run. AllByRecursion (IsWithin listed.now.job) (run_records (bytes_of (H.state host.old) listed.now.job) run.tables))) }
     ensures tables { IfOk result (λ run. AreTables run.tables) }
@@ -94,14 +100,20 @@ fn open_run<H: Host>(alloc: Global, host: &mut H, listed: &Listed) -> Result<Run
     ensures malformed { Told (H.state host.old) (IsErrOf result OpenFault.Malformed → IsDamaged (bytes_of (H.state host.old) listed.now.job) listed.now) }
     ensures logged { Told (H.state host.old) (OnOk result (IsLogged (bytes_of (H.state host.old) listed.now.job) listed.now)) }
     ensures memory { Told (H.state host.old) (IsErrOf result (OpenFault.Fault Fault.NoMemory) → IsLogged (bytes_of (H.state host.old) listed.now.job) listed.now) }
+    ensures short { OnOk result (listed.now.len ≤ 1572868) }
+    ensures short_memory { IsErrOf result (OpenFault.Fault Fault.NoMemory) → listed.now.len ≤ 1572868 }
     ensures never_full { IsErrOf result (OpenFault.Fault Fault.LogFull) → ⊥ }
     ensures never_changed { (file at : ℕ) → IsErrOf result (OpenFault.Fault (Fault.Changed file at)) → ⊥ }
     ensures only { OnlyReads (H.state host.old) (H.state host.new) }
     ensures cause { HasOpenCause (H.state host.old) (H.state host.new) result }
+    ensures reads { IfOk result (λ run. RoseBy (reads_of (table_fences run.tables)) (H.state host.old).reads (H.state host.new).reads) }
 {
     let Some(end) = find_end(host, listed)? else {
         return Err(OpenFault::Malformed);
     };
+    if listed.len > MOST_MANIFEST_BYTES {
+        return Err(OpenFault::Malformed);
+    }
     let bytes = read_manifest(alloc, host, listed)?;
     let Some(manifest) = Manifest::read(&bytes) else {
         return Err(OpenFault::Malformed);
@@ -122,6 +134,7 @@ fn find_end<H: Host>(host: &mut H, listed: &Listed) -> Result<Option<u64>, OpenF
     ensures fault { (fault : AnyOpenFault) → IsErrOf result fault → fault ≡ OpenFault.Fault Fault.Disk }
     ensures only { OnlyReads (H.state host.old) (H.state host.new) }
     ensures cause { HasOpenCause (H.state host.old) (H.state host.new) result }
+    ensures reads { IfOk result (λ end. IfSome end (λ end. RoseBy 1 (H.state host.old).reads (H.state host.new).reads)) }
 {
     let Ok(len) = host.len(listed.job) else {
         return Err(OpenFault::Fault(Fault::Disk));
@@ -180,10 +193,8 @@ fn read_manifest<H: Host>(
     ensures never_changed { (file at : ℕ) → IsErrOf result (OpenFault.Fault (Fault.Changed file at)) → ⊥ }
     ensures only { OnlyReads (H.state host.old) (H.state host.new) }
     ensures cause { HasOpenCause (H.state host.old) (H.state host.new) result }
+    ensures reads { OnOk result (RoseBy 1 (H.state host.old).reads (H.state host.new).reads) }
 {
-    if listed.len > MOST_MANIFEST_BYTES {
-        return Err(OpenFault::Malformed);
-    }
     let Ok(mut bytes) = Vec::from_elem(alloc, 0, listed.len as usize) else {
         return Err(OpenFault::Fault(Fault::NoMemory));
     };
@@ -205,6 +216,7 @@ fn open_tables<H: Host>(
     requires end { end ≡ end_of listed.now }
     requires inside { Told (H.state host.old) (end ≤ length (bytes_of (H.state host.old) listed.now.job)) }
     ensures opened { Told (H.state host.old) (IfOk result (λ tables. AreTablesAt (bytes_of (H.state host.old) listed.now.job) listed.now manifest.now (table_fences tables))) }
+    ensures places { IfOk result (λ tables. extents_of tables ≡ manifest.now) }
     ensures stored { Told (H.state host.old) (IfOk result (AllByRecursion (IsTableOf (bytes_of (H.state host.old) listed.now.job)))) }
     ensures tables { IfOk result AreTables }
     ensures few { IfOk result (λ tables. length tables ≡ length manifest.now) }
@@ -214,6 +226,7 @@ fn open_tables<H: Host>(
     ensures never_changed { (file at : ℕ) → IsErrOf result (OpenFault.Fault (Fault.Changed file at)) → ⊥ }
     ensures only { OnlyReads (H.state host.old) (H.state host.new) }
     ensures cause { HasOpenCause (H.state host.old) (H.state host.new) result }
+    ensures reads { IfOk result (λ tables. RoseBy (length tables + length (all_fences tables)) (H.state host.old).reads (H.state host.new).reads) }
 {
     let mut tables = Tables::new(alloc);
     for index in 0..manifest.count() {

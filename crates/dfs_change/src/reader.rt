@@ -1,7 +1,8 @@
 //! Change sets that are read from the tables of their logs.
 
-ghost use Rattle.std.specs.Prelude.{◌≡◌, ℕ, List, Some, IfOk, IfSome, IsErrOf};
+ghost use Rattle.std.specs.Prelude.{◌≡◌, ◌≤◌, ℕ, List, Some, IfOk, IfSome, IsErrOf};
 ghost use Rattle.std.specs.List.{AllByRecursion};
+ghost use Rattle.dfs_host.specs.Counts.{RoseBy};
 ghost use Rattle.dfs_host.specs.Fault.{HasFaultCause};
 ghost use Rattle.dfs_host.specs.Host.{Told, bytes_of, OnlyReads};
 ghost use Rattle.dfs_record.specs.Delta.{delta};
@@ -9,8 +10,8 @@ ghost use Rattle.dfs_table.specs.Identities.{IsWithin};
 ghost use Rattle.dfs_table.specs.Stored.{IsTableOf, run_records, table_records};
 ghost use Rattle.dfs_change.specs.Gathered.{Adds, StayFit};
 ghost use Rattle.dfs_change.specs.Identities.{AreFit};
-ghost use Rattle.dfs_change.specs.Meant.{log_meaning};
-ghost use Rattle.dfs_change.specs.Whole.{IsLogged};
+ghost use Rattle.dfs_change.specs.Meant.{fences_listed, log_meaning};
+ghost use Rattle.dfs_change.specs.Whole.{IsLogged, reads_of};
 
 use crate::{Change, Changes};
 use dfs_block::Block;
@@ -30,12 +31,15 @@ pub fn read_changes<H: Host>(
     // Its records are valid, and their identities are of jobs up to the entry's.
     ensures fit { IfOk result (λ found. IfSome found (AreFit listed.now.job)) }
 
-    // Memory is asked for only where the file is a log and has the manifest's place.
+    // Memory is asked for only where the file is a log and has the manifest's place, and a manifest may be so long.
     ensures memory { Told (H.state host.old) (IsErrOf result Fault.NoMemory → IsLogged (bytes_of (H.state host.old) listed.now.job) listed.now) }
+    ensures short_memory { IsErrOf result Fault.NoMemory → listed.now.len ≤ 1572868 }
     ensures never_full { IsErrOf result Fault.LogFull → ⊥ }
     ensures never_changed { (file at : ℕ) → IsErrOf result (Fault.Changed file at) → ⊥ }
     ensures only { OnlyReads (H.state host.old) (H.state host.new) }
     ensures cause { HasFaultCause (H.state host.old) (H.state host.new) result }
+    // The header, the manifest, each index and each block of a whole log are read once.
+    ensures reads { Told (H.state host.old) (IfOk result (λ found. IfSome found (λ _. RoseBy (reads_of (fences_listed (bytes_of (H.state host.old) listed.now.job) listed.now)) (H.state host.old).reads (H.state host.new).reads))) }
 {
     match Change::open(alloc, host, listed) {
         Ok(change) => match gather(alloc, listed.job, &change.run.tables) {

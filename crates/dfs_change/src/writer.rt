@@ -1,7 +1,7 @@
 //! Change sets that are written to logs, as runs with a manifest.
 
-ghost use Rattle.std.specs.Prelude.{◌≡◌, ◌≤◌, ◌<◌, ◌+◌, ◌*◌, ◌↔◌, ℕ, List, Some, length, take, IsFalse, IsErrOf, IfOk, OnOk};
-ghost use Rattle.std.specs.List.{AllByRecursion};
+ghost use Rattle.std.specs.Prelude.{◌≡◌, ◌≤◌, ◌<◌, ◌+◌, ◌*◌, ◌↔◌, ℕ, List, Some, length, take, IsFalse, IsTrue, IsErrOf, IfOk, OnOk};
+ghost use Rattle.std.specs.List.{AllByRecursion, sum_by};
 ghost use Rattle.dfs_host.specs.Disk.{IsSettled};
 ghost use Rattle.dfs_host.specs.Fault.{HasFaultCause};
 ghost use Rattle.dfs_host.specs.Host.{Told, bytes_of, Only};
@@ -13,10 +13,10 @@ ghost use Rattle.dfs_table.specs.Appending.{Appends};
 ghost use Rattle.dfs_table.specs.Counts.{count_of};
 ghost use Rattle.dfs_table.specs.Stored.{IsTableOf, run_records};
 ghost use Rattle.dfs_table.specs.Tables.{all_fences};
-ghost use Rattle.dfs_table.specs.Writer.{AreIn};
+ghost use Rattle.dfs_table.specs.Writer.{AreIn, table_len};
 ghost use Rattle.dfs_change.specs.Identities.{AreFit};
 ghost use Rattle.dfs_change.specs.Meant.{log_meaning};
-ghost use Rattle.dfs_change.specs.Sealing.{entry_of};
+ghost use Rattle.dfs_change.specs.Sealing.{HasRun, entry_of};
 
 use crate::Changes;
 use crate::sealing::{ChangeWriter, Sealed};
@@ -46,6 +46,8 @@ pub fn write_changes<H: Host>(
     ensures settled { Told (H.state host.old) (OnOk result (IsSettled ((H.state host.new).disk.files log.old.file))) }
     ensures stands { Told (H.state host.old) (OnOk result (LogStands (H.state host.new) log.new)) }
     ensures count { IfOk result (λ sealed. sealed.count ≡ len changes.now) }
+    // The log grew by the blocks and indexes of a run and by its manifest, and by nothing else.
+    ensures wrote { Told (H.state host.old) (IfOk result (λ sealed. HasRun (bytes_of (H.state host.new) log.old.file) log.old.len log.new.len changes.now sealed)) }
 
     // What the log had stays, also where a device call failed.
     ensures before { Told (H.state host.old) (take log.old.len (bytes_of (H.state host.new) log.old.file) ≡ bytes_of (H.state host.old) log.old.file) }
@@ -55,6 +57,8 @@ pub fn write_changes<H: Host>(
     ensures over { 0 < log.new.refused → log.new.limit < log.new.len + log.new.refused }
     // A record costs at most 1,100 bytes, and the manifest 4 and at most 16 for each of at most 131,072 tables.
     ensures growth { log.new.len + log.new.refused ≤ log.old.len + 1100 * len changes.now + 2097156 }
+    ensures live { OnOk result (IsFalse log.new.spent) }
+    ensures failed { IsErrOf result Fault.Disk → IsTrue log.new.spent }
     ensures never_changed { (file at : ℕ) → IsErrOf result (Fault.Changed file at) → ⊥ }
     ensures only { Only log.old.file (H.state host.old) (H.state host.new) }
     ensures cause { HasFaultCause (H.state host.old) (H.state host.new) result }
@@ -87,12 +91,15 @@ fn write_run<H: Host>(
     ensures live { OnOk result (IsFalse log.new.spent) }
     ensures sound { OnOk result (IsLog log.new) }
     ensures full { IsErrOf result Fault.LogFull ↔ (0 < log.new.refused) }
+    ensures wrote { IfOk result (λ run. log.new.len ≡ log.old.len + sum_by table_len run.tables) }
     ensures growth { log.new.len + log.new.refused ≤ log.old.len + 1100 * len changes.now }
+    ensures failed { IsErrOf result Fault.Disk → IsTrue log.new.spent }
     ensures never_changed { (file at : ℕ) → IsErrOf result (Fault.Changed file at) → ⊥ }
     ensures left { Appends (H.state host.old) (H.state host.new) log.old log.new }
     ensures cause { HasFaultCause (H.state host.old) (H.state host.new) result }
 {
-    tell_log(log);
+    // Read here and at the end, since the length is within the limit of every log.
+    let _ = log.len();
     let Ok(mut writer) = TableWriter::new(alloc, MOST_TABLES) else {
         return Err(Fault::NoMemory);
     };
@@ -104,13 +111,6 @@ fn write_run<H: Host>(
         writer.push(host, log, rec)?;
     }
     let run = writer.finish(host, log)?;
-    tell_log(log);
+    let _ = log.len();
     Ok(run)
-}
-
-// It does nothing: its contract tells a proof what is so of every log.
-fn tell_log(log: &LogWriter)
-    ensures { IsLog log.now }
-{
-    let _len = log.len();
 }

@@ -3,17 +3,20 @@ use Rattle.std.specs.Prelude.{IsErrOf}
 use Rattle.std.specs.List.{AllByRecursion}
 use Rattle.std.proofs.lemmas.List.{length-append}
 use Rattle.std.proofs.lemmas.Result.{err_from_is_err_and}
+use Rattle.dfs_host.specs.Counts.{RoseBy}
 use Rattle.dfs_host.specs.Host.{bytes_of}
+use Rattle.dfs_host.proofs.Causes.{rose_by_sum}
 use Rattle.dfs_table.specs.declared.table.Table.{Table}
 use Rattle.dfs_table.specs.declared.open.OpenFault.TheVariants.{Malformed}
 use Rattle.dfs_table.specs.Opened.{IsNoTable, IsTableAt}
 use Rattle.dfs_table.specs.Stored.{IsTableOf}
+use Rattle.dfs_table.specs.Tables.{all_fences}
 use Rattle.dfs_table.specs.Writer.{AreIn}
 use Rattle.dfs_host.proofs.Moments.{reads_go_on, same_bytes}
 use Rattle.dfs_table.proofs.Opening.{no_fault_by}
 use Rattle.dfs_table.proofs.Stays.{all_append}
-use Rattle.dfs_change.specs.Whole.{AreTablesAt, end_of, table_fences}
-use Rattle.dfs_change.proofs.Opened.{none_there, not_apart, tables_next}
+use Rattle.dfs_change.specs.Whole.{AreTablesAt, end_of, extents_of, table_fences}
+use Rattle.dfs_change.proofs.Opened.{fences_next, none_there, not_apart, places_next, tables_next}
 use Rattle.dfs_change.proofs.change.open_tables.Goals as goal
 
 pub returns-in_err-table-clause-malformed : goal.returns-in_err-table-clause-malformed
@@ -59,6 +62,7 @@ loop-index-preserved g c =
           (subst (λ b. IsTableAt b l.job t.0 t.1 c.args.end table.fences) (same_bytes so_far.only tells l.job) (opened.table (so_far.only.tells ∙ tells))) in
           subst (λ ts. AreTablesAt file l (take (c.loop-index.index + 1) c.args.manifest.now) (table_fences ts)) (sym added.added)
           (tables_next file l c.args.manifest.now c.loop-index.index t c.loop-index.tables table c.table-at.ensures (so_far.opened tells) here);
+      places = ap extents_of added.added ∙ places_next c.args.manifest.now c.loop-index.index t c.loop-index.tables table c.table-at.ensures so_far.places (λ i. (opened.place.1 i, opened.place.2 i));
       stored = λ tells.
           let here = subst (λ b. IsTableOf b table) (same_bytes so_far.only tells l.job) (opened.stored (so_far.only.tells ∙ tells)) in
           subst (AllByRecursion (IsTableOf file)) (sym added.added) (all_append (IsTableOf file) c.loop-index.tables (table ∷ []) (so_far.stored tells) (here, tt));
@@ -67,4 +71,6 @@ loop-index-preserved g c =
       file = subst (AreIn l.job) (sym added.added) (all_append (λ (t : Table). t.file ≡ l.job) c.loop-index.tables (table ∷ []) so_far.file (opened.place.0, tt));
       only = reads_go_on so_far.only c.open.ensures.only;
       no_fault = no_fault_by so_far.no_fault c.open.ensures.cause (λ is. cc (is, c.in_ok-table.was));
+      reads = subst (λ n. RoseBy n (g.H.Host.state c.args.host.now).reads (g.H.Host.state c.open.new.host).reads)
+          (omega (arith, ap (λ ts. length (all_fences ts)) added.added, fences_next c.loop-index.tables table)) (rose_by_sum so_far.reads opened.reads);
     }

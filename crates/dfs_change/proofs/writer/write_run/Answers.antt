@@ -13,6 +13,7 @@ use Rattle.dfs_block.specs.Block.{IsAboveLast}
 use Rattle.dfs_block.proofs.Rising.{rise_behind}
 use Rattle.dfs_table.specs.Stored.{run_records}
 use Rattle.dfs_table.specs.Writer.{AreIn, WriterStands, pushed}
+use Rattle.dfs_change.specs.Written.{IsWriting}
 use Rattle.dfs_change.proofs.Maps.{record_at, same_records}
 use Rattle.dfs_record.proofs.Replays.{rising_records}
 use Rattle.dfs_change.proofs.Writings.{appends_on, lent_record, records_count, next_above, not_begun, not_too_many}
@@ -23,8 +24,9 @@ loop-key-init g c =
     let gives = c.into_iter-key-iterator.ensures.into_iter_gives in
     let es = c.changes.inside.entries.entries in
     let all : map record_at c.into_iter-key-iterator.result ≡ records_of c.args.changes.now = ap (map record_at) gives.0 ∙ sym (same_records es gives.5) ∙ ap records_of c.changes.view_is in
-    not_begun (g.H.Host.state c.args.host.now) c.args.log.now (map record_at c.into_iter-key-iterator.result) c.in-Ok.writer c.in-Ok.ensures c.requires.stands c.tell_log.ensures c.requires.live
-    (subst (AllByRecursion IsRecord) (sym all) c.requires.valid) (subst KeysRise (sym all) (rising_records c.args.changes.now))
+    let host = g.H.Host.state c.args.host.now in
+    subst (λ rs. IsWriting host host c.args.log.now c.args.log.now (records_of c.args.changes.now) rs c.in-Ok.writer) (sym all)
+    (not_begun host c.args.log.now (records_of c.args.changes.now) c.in-Ok.writer c.in-Ok.ensures c.requires.stands c.len.ensures.sound c.requires.live c.requires.valid (rising_records c.args.changes.now))
 
 pub loop-key-preserved : goal.loop-key-preserved
 loop-key-preserved g c =
@@ -59,6 +61,7 @@ loop-key-preserved g c =
       log_live = x.live.1;
       file = subst (λ n. AreIn n c.push.new.self.closed) same x.file;
       growth = omega (arith, h.growth, x.growth, x.count);
+      grown = omega (arith, h.grown, x.wrote);
       left = appends_on c.requires.stands h.log_stands h.left c.push.ensures.before c.push.ensures.only c.push.ensures.reads c.push.ensures.same.0 c.push.ensures.same.1 c.push.ensures.over;
       no_fault = none_by h.no_fault c.push.ensures.cause (λ is. cc (is, c.in_ok-push.was));
     }
@@ -66,10 +69,7 @@ loop-key-preserved g c =
 -- how many records there are
 pub returns-in_err-push-clause-full : goal.returns-in_err-push-clause-full
 returns-in_err-push-clause-full g c =
-    let gives = c.into_iter-key-iterator.ensures.into_iter_gives in
-    let es = c.changes.inside.entries.entries in
-    let all : map record_at c.into_iter-key-iterator.result ≡ records_of c.args.changes.now = ap (map record_at) gives.0 ∙ sym (same_records es gives.5) ∙ ap records_of c.changes.view_is in
-    let few : length (map record_at c.into_iter-key-iterator.result) ≤ 1048576 = omega (arith, ap length all, records_count c.args.changes.now, c.requires.few) in
+    let few : length (records_of c.args.changes.now) ≤ 1048576 = omega (arith, records_count c.args.changes.now, c.requires.few) in
     let p = err_from_is_err_and c.from_residual.result c.from_residual.ensures.1 in (
       λ is. elim (c.push.ensures.full (cc (is, c.in_err-push.was, p.1, p.2))) [
         | inl some ↦ some
@@ -81,12 +81,9 @@ returns-in_err-push-clause-full g c =
 pub returns-in_err-push-clause-growth : goal.returns-in_err-push-clause-growth
 returns-in_err-push-clause-growth g c =
     let h = c.loop-key.invariant in
-    let gives = c.into_iter-key-iterator.ensures.into_iter_gives in
-    let es = c.changes.inside.entries.entries in
-    let all : map record_at c.into_iter-key-iterator.result ≡ records_of c.args.changes.now = ap (map record_at) gives.0 ∙ sym (same_records es gives.5) ∙ ap records_of c.changes.view_is in
     let r : Record = record_at (c.in-Some.key.now, c.in-Some.value.now) in
     let is : map record_at c.loop-key.key-iterator ≡ r ∷ map record_at c.next.new.self = ap (map record_at) c.in-Some.ensures.steps in
-    omega (arith, c.push.ensures.growth_at_most, h.growth, h.count, ap length is, ap length all, records_count c.args.changes.now)
+    omega (arith, c.push.ensures.growth_at_most, h.growth, h.count, ap length is, records_count c.args.changes.now)
 
 pub returns-in_err-push-clause-left : goal.returns-in_err-push-clause-left
 returns-in_err-push-clause-left g c =
@@ -97,10 +94,7 @@ returns-in_err-push-clause-left g c =
 pub returns-in_err-run-clause-growth : goal.returns-in_err-run-clause-growth
 returns-in_err-run-clause-growth g c =
     let h = c.loop-key.invariant in
-    let gives = c.into_iter-key-iterator.ensures.into_iter_gives in
-    let es = c.changes.inside.entries.entries in
-    let all : map record_at c.into_iter-key-iterator.result ≡ records_of c.args.changes.now = ap (map record_at) gives.0 ∙ sym (same_records es gives.5) ∙ ap records_of c.changes.view_is in
-    omega (arith, c.finish.ensures.growth, h.growth, h.count, ap length all, records_count c.args.changes.now)
+    omega (arith, c.finish.ensures.growth, h.growth, h.count, records_count c.args.changes.now)
 
 pub returns-in_err-run-clause-left : goal.returns-in_err-run-clause-left
 returns-in_err-run-clause-left g c =
@@ -112,29 +106,23 @@ pub returns-clause-records : goal.returns-clause-records
 returns-clause-records g c tells =
     let h = c.loop-key.invariant in
     let mid = g.H.Host.state c.loop-key.host in
-    let gives = c.into_iter-key-iterator.ensures.into_iter_gives in
-    let es = c.changes.inside.entries.entries in
-    let all : map record_at c.into_iter-key-iterator.result ≡ records_of c.args.changes.now = ap (map record_at) gives.0 ∙ sym (same_records es gives.5) ∙ ap records_of c.changes.view_is in
     ap (λ n. run_records (bytes_of (g.H.Host.state c.finish.new.host) n) c.in_ok-run.run'.tables) (sym h.left.file)
     ∙ c.in_ok-run.ensures.records (h.left.only.tells ∙ tells)
     ∙ ap (λ n. pushed (bytes_of mid n) c.loop-key.writer) h.left.file
-    ∙ sym (append-nil _) ∙ ap (λ l. pushed (bytes_of mid c.args.log.now.file) c.loop-key.writer ++ map record_at l) (sym c.in-None.ensures.steps.0) ∙ h.written tells ∙ all
+    ∙ sym (append-nil _) ∙ ap (λ l. pushed (bytes_of mid c.args.log.now.file) c.loop-key.writer ++ map record_at l) (sym c.in-None.ensures.steps.0) ∙ h.written tells
 
 pub returns-clause-count : goal.returns-clause-count
 returns-clause-count g c =
     let h = c.loop-key.invariant in
-    let gives = c.into_iter-key-iterator.ensures.into_iter_gives in
-    let es = c.changes.inside.entries.entries in
-    let all : map record_at c.into_iter-key-iterator.result ≡ records_of c.args.changes.now = ap (map record_at) gives.0 ∙ sym (same_records es gives.5) ∙ ap records_of c.changes.view_is in
-    omega (arith, c.in_ok-run.ensures.count, h.count, ap (λ l. length (map record_at l)) c.in-None.ensures.steps.0, ap length all, records_count c.args.changes.now)
+    omega (arith, c.in_ok-run.ensures.count, h.count, ap (λ l. length (map record_at l)) c.in-None.ensures.steps.0, records_count c.args.changes.now)
+
+pub returns-clause-wrote : goal.returns-clause-wrote
+returns-clause-wrote g c = omega (arith, c.in_ok-run.ensures.wrote, c.loop-key.invariant.grown)
 
 pub returns-clause-growth : goal.returns-clause-growth
 returns-clause-growth g c =
     let h = c.loop-key.invariant in
-    let gives = c.into_iter-key-iterator.ensures.into_iter_gives in
-    let es = c.changes.inside.entries.entries in
-    let all : map record_at c.into_iter-key-iterator.result ≡ records_of c.args.changes.now = ap (map record_at) gives.0 ∙ sym (same_records es gives.5) ∙ ap records_of c.changes.view_is in
-    omega (arith, c.finish.ensures.growth, h.growth, h.count, ap length all, records_count c.args.changes.now)
+    omega (arith, c.finish.ensures.growth, h.growth, h.count, records_count c.args.changes.now)
 
 pub returns-clause-left : goal.returns-clause-left
 returns-clause-left g c =

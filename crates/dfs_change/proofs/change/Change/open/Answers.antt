@@ -1,12 +1,14 @@
 use Rattle.std.proofs.Common.{sym, subst}
 use Rattle.std.specs.List.{AllByRecursion}
 use Rattle.std.proofs.lemmas.Result.{IfOk-weaker}
+use Rattle.dfs_host.specs.Counts.{RoseBy}
 use Rattle.dfs_host.specs.Host.{bytes_of}
 use Rattle.dfs_table.proofs.Rising.{own_records}
 use Rattle.dfs_record.specs.Delta.{delta}
 use Rattle.dfs_table.specs.declared.run.Run.{Run}
 use Rattle.dfs_table.specs.Identities.{IsWithin}
 use Rattle.dfs_table.specs.Stored.{IsStored, run_records}
+use Rattle.dfs_change.specs.Whole.{IsWhole, extents_of, reads_of, table_fences}
 use Rattle.dfs_change.proofs.change.Change.open.Goals as goal
 
 pub returns-clause-stored : goal.returns-clause-stored
@@ -23,3 +25,17 @@ returns-clause-within g c tells =
     let file = bytes_of (g.H.Host.state c.args.host.now) c.args.listed.now.job in
     let within = c.in_ok-run.ensures.within tells in
     IfOk-weaker c.share.result _ _ (λ change is. subst (λ (r : Run). AllByRecursion (IsWithin c.args.listed.now.job) (run_records file r.tables)) (sym is.1) within) c.share.ensures.change
+
+pub returns-clause-whole : goal.returns-clause-whole
+returns-clause-whole g c tells =
+    let l = c.args.listed.now in
+    let file = bytes_of (g.H.Host.state c.args.host.now) l.job in
+    let whole = c.in_ok-run.ensures.whole tells in
+    IfOk-weaker c.share.result _ _ (λ change is. subst (λ (r : Run). IsWhole file l (extents_of r.tables) (table_fences r.tables)) (sym is.1) whole) c.share.ensures.change
+
+pub returns-clause-reads : goal.returns-clause-reads
+returns-clause-reads g c =
+    let old = (g.H.Host.state c.args.host.now).reads in
+    let new = (g.H.Host.state c.open_run.new.host).reads in
+    let reads = c.in_ok-run.ensures.reads in
+    IfOk-weaker c.share.result _ _ (λ change is. subst (λ (r : Run). RoseBy (reads_of (table_fences r.tables)) old new) (sym is.1) reads) c.share.ensures.change

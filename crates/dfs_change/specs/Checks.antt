@@ -1,4 +1,4 @@
--- Whether a log is whole, by tests. Each passes exactly where the fact holds, of lists of any numbers.
+-- Whether a log is whole, by checks that compute. Each passes exactly where the fact holds, of lists of any numbers.
 use Rattle.std.specs.Prelude.{ℕ, ◌+◌, ◌^◌, Bool, true, false, ◌&&◌, nat_le, nat_lt, ◌==◌, List, [], ◌∷◌, length, take, map, Option, Some, None}
 use Rattle.std.specs.List.{list_all}
 use Rattle.std.specs.Str.{bytes_eq}

@@ -1,4 +1,4 @@
--- What the tests of a log tell.
+-- What the checks of a log tell.
 use Rattle.std.proofs.Common.{◌≡◌, ℕ, ◌+◌, ◌^◌, ◌<◌, ◌≤◌, Bool, true, false, ◌&&◌, leb, ltb, T, List, [], ◌∷◌, length, take, refl, ap, ◌∙◌}
 use Rattle.std.specs.Prelude.{Option, Some, None, ◌==◌, IsTrue}
 use Rattle.std.specs.List.{AllByRecursion, list_all}
@@ -25,9 +25,9 @@ use Rattle.dfs_table.specs.Identities.{is_within, IsWithin}
 use Rattle.dfs_table.specs.Opened.{EndsBy, IsTableAt}
 use Rattle.dfs_table.specs.Stored.{IsBlockOf, records_at}
 use Rattle.dfs_change.specs.Whole.{AreTablesAt, IsWhole, end_of, joined}
-use Rattle.dfs_change.specs.Tests.{is_id, is_key, is_value, is_record, is_fence, is_extent, is_manifest, are_apart, is_index, is_block, has_key, is_block_of, is_table, are_tables, is_whole}
+use Rattle.dfs_change.specs.Checks.{is_id, is_key, is_value, is_record, is_fence, is_extent, is_manifest, are_apart, is_index, is_block, has_key, is_block_of, is_table, are_tables, is_whole}
 
--- the test passes exactly where the fact holds
+-- the check passes exactly where the fact holds
 pub record Tells (b : Bool) (P : Type 0) : Type 0 where
   pub to : b ≡ true → P
   pub from : P → b ≡ true

@@ -53,7 +53,7 @@ impl Session {
     ghost use Rattle.std.specs.Prelude.{◌≡◌, ◌↔◌, ◌<◌, ℕ, List, Some, IfOk, IfErr, OnOk, OnErr, IsTrue, IsErrOf};
     ghost use Rattle.dfs_host.specs.Disk.{IsSettled};
     ghost use Rattle.dfs_host.specs.Fault.{HasFaultCause};
-    ghost use Rattle.dfs_host.specs.Host.{HostState, Told, LeavesOnly, OnlyReads, SaysNothing, bytes_of};
+    ghost use Rattle.dfs_host.specs.Host.{HostState, Told, LeavesOnly, ChangesOnly, OnlyReads, SaysNothing, bytes_of};
     ghost use Rattle.dfs_registry.specs.Opening.{HasRegCause};
     ghost use Rattle.dfs_registry.specs.Reading.{registry as reading};
     ghost use Rattle.dfs_reply.specs.Text.{text};
@@ -84,6 +84,9 @@ impl Session {
         // Each image since the start has the registry, also where a device call failed.
         ensures images { (registry : Publications) → Told (H.state host.old) (((file : ℕ) → IsSettled ((H.state host.old).disk.files file)) → value_on (H.state host.old) ≡ Some registry
             → LeavesOnly (Holds registry) (H.state host.old) (H.state host.new)) }
+        // File 0 alone is written, and means what it meant in each image since the start.
+        ensures only { Told (H.state host.old) (IsSettled ((H.state host.old).disk.files 0)
+            → ChangesOnly 0 (λ bytes. reading bytes ≡ reading (bytes_of (H.state host.old) 0)) (H.state host.old) (H.state host.new)) }
         ensures silent { Told (H.state host.old) (IsSettled ((H.state host.old).disk.files 0) → SaysNothing (H.state host.old) (H.state host.new)) }
         ensures refused { IsErrOf result RegFault.NotRegistry → OnlyReads (H.state host.old) (H.state host.new) }
         ensures broken { (place : ℕ) → IsErrOf result (RegFault.Damaged place) → OnlyReads (H.state host.old) (H.state host.new) }

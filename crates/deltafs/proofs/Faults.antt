@@ -1,8 +1,10 @@
 -- What a line leaves, by its answer.
-use Rattle.std.proofs.Common.{◌≡◌, ℕ, List, [], sym, refl, subst}
+use Rattle.std.proofs.Common.{◌≡◌, ◌∙◌, ℕ, List, [], ◌++◌, take, ap, sym, refl, subst, append-nil, append_assoc, arith}
 use Rattle.std.specs.Prelude.{Result, Ok, Err, IfErr, OnOk, Some, Option}
 use Rattle.dfs_host.specs.Host.{HostState, said_of}
 use Rattle.dfs_host.specs.declared.fault.Fault.TheVariants as fault
+use Rattle.dfs_registry.specs.declared.fault.RegFault.{RegFault}
+use Rattle.dfs_registry.specs.declared.fault.RegFault.TheVariants as reg
 use Rattle.dfs_script.specs.Script.{lines_of}
 use Rattle.dfs_session.specs.declared.session.Session.{Session as LiveSession}
 use Rattle.dfs_session.specs.Files.{value_on}
@@ -11,8 +13,9 @@ use Rattle.deltafs.specs.declared.status.Status.TheVariants.{Done}
 use Rattle.deltafs.specs.declared.status.Stop.{Stop}
 use Rattle.deltafs.specs.declared.status.Stop.TheVariants as stop
 use Rattle.deltafs.specs.Causes.{SourceFaultsOf}
-use Rattle.deltafs.specs.Lines.{LeavesFiles, Goes, status_by, status_after}
-use Rattle.deltafs.specs.Says.{Says, Untaken}
+use Rattle.deltafs.specs.Lines.{LeavesFiles, SaysReply, SaysMore, Goes, status_by, status_after}
+use Rattle.deltafs.specs.Refusals.{status_of}
+use Rattle.deltafs.specs.Says.{Says, TakesAtMost, Untaken}
 
 abbrev IsOutput : Stop → Type 0
 IsOutput stop.Output = Unit {0}
@@ -37,16 +40,26 @@ stops_rest (stop.Fault fault.LogFull) old script rest other said files says = sa
 stops_rest (stop.Fault (fault.Changed file at)) old script rest other said files says = says
 stops_rest stop.Output old script rest other said files says = says
 
-pub no_limit : (s : Stop) (limit : ℕ) (script rest : List ℕ) → Untaken (status_by s) limit script rest
-no_limit (stop.Fault fault.NoMemory) limit script rest = tt
-no_limit (stop.Fault fault.Disk) limit script rest = tt
-no_limit (stop.Fault fault.LogFull) limit script rest = tt
-no_limit (stop.Fault (fault.Changed file at)) limit script rest = tt
-no_limit stop.Output limit script rest = tt
+pub no_limit : (s : Stop) (limit : ℕ) (script rest : List ℕ) → TakesAtMost limit script rest → Untaken (status_by s) limit script rest
+no_limit (stop.Fault fault.NoMemory) limit script rest most = most
+no_limit (stop.Fault fault.Disk) limit script rest most = most
+no_limit (stop.Fault fault.LogFull) limit script rest most = most
+no_limit (stop.Fault (fault.Changed file at)) limit script rest most = most
+no_limit stop.Output limit script rest most = most
 
-pub limit_after : (result : Result (Unit {0}) Stop) (limit : ℕ) (script rest : List ℕ) → Untaken Done limit script rest → Untaken (status_after result) limit script rest
-limit_after (Ok u) limit script rest less = less
-limit_after (Err s) limit script rest less = no_limit s limit script rest
+pub limit_after : (result : Result (Unit {0}) Stop) (limit : ℕ) (script rest : List ℕ) → Untaken Done limit script rest → TakesAtMost limit script rest → Untaken (status_after result) limit script rest
+limit_after (Ok u) limit script rest less most = less
+limit_after (Err s) limit script rest less most = no_limit s limit script rest most
+
+-- nothing was taken
+pub takes_none : (limit : ℕ) (script : List ℕ) → TakesAtMost limit script script
+takes_none limit script = (record { taken = []; whole = refl }, omega arith)
+
+pub limit_unopened : (fault : RegFault) (limit : ℕ) (script : List ℕ) → Untaken (status_of fault) limit script script
+limit_unopened reg.NotRegistry limit script = takes_none limit script
+limit_unopened (reg.Damaged place) limit script = takes_none limit script
+limit_unopened reg.NoMemory limit script = takes_none limit script
+limit_unopened reg.Disk limit script = takes_none limit script
 
 -- no line touches the source
 pub no_source : (result : Result (Unit {0}) Stop) (count : ℕ) → SourceFaultsOf (status_after result) count count
@@ -61,3 +74,19 @@ no_source (Err stop.Output) count = refl
 pub says_end : (result : Result (Unit {0}) Stop) (old : Registry) (taken : List ℕ) (host : HostState) (session : LiveSession) → Goes result old (lines_of taken) taken [] host session → Says (status_after result) old taken [] (said_of host) (value_on host)
 says_end (Ok u) old taken host session after = record { said_all = after.said; none_left = refl; stands = after.value }
 says_end (Err s) old taken host session says = says
+
+-- What is said only grows.
+
+pub says_none : (host : HostState) → SaysMore host host
+says_none host = record { more = []; said = sym (append-nil (said_of host)) }
+
+pub says_on : {old mid new : HostState} → SaysMore old mid → SaysMore mid new → SaysMore old new
+says_on {old} {mid} {new} first second = record {
+  more = first.more ++ second.more;
+  said = second.said ∙ ap (λ (l : List ℕ). l ++ second.more) first.said ∙ append_assoc (said_of old) first.more second.more;
+}
+
+pub says_reply : (result : Result (Unit {0}) Stop) (reply : List ℕ) (old mid new : HostState) → said_of mid ≡ said_of old → SaysReply result reply (said_of mid) (said_of new) → SaysMore old new
+says_reply (Ok u) reply old mid new silent is = record { more = reply; said = is ∙ ap (λ (l : List ℕ). l ++ reply) silent }
+says_reply (Err (stop.Fault f)) reply old mid new silent is = record { more = []; said = is ∙ silent ∙ sym (append-nil (said_of old)) }
+says_reply (Err stop.Output) reply old mid new silent is = record { more = take is.0 reply; said = is.1 ∙ ap (λ (l : List ℕ). l ++ take is.0 reply) silent }

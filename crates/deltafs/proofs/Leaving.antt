@@ -1,20 +1,21 @@
 -- What a crash leaves of a run, line by line.
-use Rattle.std.proofs.Common.{◌≡◌, inl, inr, ⊎_elim, ℕ, List, [], ◌∷◌, ◌++◌, take, Some, refl, sym, ap, ◌∙◌, append-nil}
+use Rattle.std.proofs.Common.{◌≡◌, inl, inr, ⊎_elim, ℕ, List, [], ◌∷◌, ◌++◌, take, Some, refl, sym, ap, ◌∙◌, append-nil, arith}
 use Rattle.std.specs.Prelude.{IsTrue}
 use Rattle.std.specs.List.{AllByRecursion}
-use Rattle.dfs_host.specs.Disk.{Image, IsImage}
-use Rattle.dfs_host.specs.Host.{HostState, LeavesOnly, IsSaying, bytes_of, said_of}
+use Rattle.dfs_host.specs.Disk.{Image, IsImage, IsSettled}
+use Rattle.dfs_host.specs.Host.{HostState, LeavesOnly, ChangesOnly, KeepsOutput, IsSaying, bytes_of, said_of}
 use Rattle.dfs_host.specs.Source.{SourceState}
 use Rattle.dfs_host.proofs.Files.{left_when_settled}
-use Rattle.dfs_host.proofs.Moments.{started, goes_on, widened}
+use Rattle.dfs_host.proofs.Moments.{started, goes_on, widened, nothing_done}
 use Rattle.dfs_registry.specs.declared.listed.Listed.{Listed}
+use Rattle.dfs_registry.specs.Reading.{registry as reading}
 use Rattle.dfs_registry.proofs.Standing.{standing_images}
 use Rattle.dfs_change.specs.Meant.{log_meaning}
 use Rattle.dfs_reply.specs.Text.{text}
 use Rattle.dfs_script.specs.Collected.{front}
 use Rattle.dfs_script.specs.Script.{lines_of, ended_lines}
 use Rattle.dfs_session.specs.declared.session.Session.{Session as LiveSession}
-use Rattle.dfs_session.specs.Files.{publications_of, value, value_read}
+use Rattle.dfs_session.specs.Files.{publications_of, value, value_on, value_read}
 use Rattle.dfs_session.specs.Images.{Holds, HoldsEither, HoldsNow}
 use Rattle.dfs_session.specs.Run.{session_after, written}
 use Rattle.dfs_session.specs.Session.{Session, Registry, Step, opened, step}
@@ -22,6 +23,7 @@ use Rattle.dfs_session.specs.Sound.{IsSound, listed_in}
 use Rattle.dfs_session.specs.Stands.{Stands, LogIsSettled}
 use Rattle.deltafs.specs.Keeps.{Keeps, IsOfLine}
 use Rattle.deltafs.specs.Lines.{IsReady, IsAfter}
+use Rattle.deltafs.specs.Says.{IsPrompt}
 use Rattle.deltafs.specs.Starts.{StartsFrom}
 use Rattle.deltafs.proofs.Promises.{keeps_before, keeps_into}
 use Rattle.deltafs.proofs.Turns.{front_steps, lines_continue}
@@ -99,3 +101,15 @@ module _ (old : Registry) (host : HostState) (source : SourceState) (start : Sta
   -- the registry was opened, or not
   pub opening : (mid : HostState) → LeavesOnly (Holds old) host mid → LeavesOnly (λ image. image.said ≡ said_of host) host mid → LeavesOnly (Keeps old source.rest) host mid
   opening mid holds silent = widened (both holds silent) (λ image has. keeps_old image (has.1 ∙ start.silent) has.0)
+
+  -- the session that was opened, before the first line
+  pub opened_first : (mid : HostState) (session : LiveSession) → KeepsOutput host mid → Stands mid session (opened old) → value_on mid ≡ value_on host → IsAfter old [] mid session
+  opened_first mid session kept stands value = record { said = kept.said ∙ start.silent; stands = stands; value = value ∙ start.value }
+
+-- nothing was taken
+pub prompt_idle : (old : Registry) (script said : List ℕ) → IsPrompt old script script said
+prompt_idle old script said = record { earlier = []; piece = []; more = said; whole = refl; short = omega arith; said_earlier = refl }
+
+-- no call was made
+pub shut_idle : (host : HostState) → IsSettled (host.disk.files 0) → ChangesOnly 0 (λ bytes. reading bytes ≡ reading (bytes_of host 0)) host host
+shut_idle host settled = nothing_done host (λ bytes left. ap reading (left_when_settled settled bytes left))

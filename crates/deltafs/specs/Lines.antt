@@ -44,6 +44,11 @@ SaysReply (Ok _) reply old new = new ≡ old ++ reply
 SaysReply (Err (stop.Fault f)) reply old new = new ≡ old
 SaysReply (Err stop.Output) reply old new = (count : ℕ) × (new ≡ old ++ take count reply)
 
+-- what was said before begins what was said
+pub record SaysMore (old new : HostState) : Type 0 where
+  pub more : List ℕ
+  pub said : said_of new ≡ said_of old ++ more
+
 -- what the files stand for behind a line: a line whose reply was not said in full was worked all the same
 abbrev pub LeavesFiles : Result (Unit {0}) Stop → Registry → Registry → Option Registry → Type 0
 LeavesFiles (Ok _) before after files = files ≡ Some after

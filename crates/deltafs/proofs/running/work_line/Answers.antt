@@ -1,10 +1,10 @@
-use Rattle.std.proofs.Common.{List, ℕ, ◌≡◌, subst, ◌∙◌}
+use Rattle.std.proofs.Common.{List, ℕ, [], ◌≡◌, append-nil, sym, subst, ◌∙◌}
 use Rattle.std.specs.Prelude.{IsTrue}
 use Rattle.dfs_host.specs.Host.{said_of}
 use Rattle.dfs_reply.specs.Text.{text}
 use Rattle.dfs_session.specs.Session.{step}
 use Rattle.deltafs.specs.Lines.{SaysReply}
-use Rattle.deltafs.proofs.Faults.{on_ok, leaves_said}
+use Rattle.deltafs.proofs.Faults.{on_ok, leaves_said, says_reply}
 use Rattle.deltafs.proofs.Hosts.{ready_stays, stands_stays, value_stays}
 use Rattle.deltafs.proofs.Leaving.{stepped, replied}
 use Rattle.deltafs.proofs.running.work_line.Goals as goal
@@ -49,3 +49,10 @@ returns-in-Ok-clause-images g c s tells stands =
 pub returns-in-Err-clause-images : goal.returns-in-Err-clause-images
 returns-in-Err-clause-images g c s tells stands =
     stepped (g.H.Host.state c.args.host.now) (g.H.Host.state c.step.new.host) s.registry (step s c.args.line.now) (c.step.ensures.images s tells stands) (c.step.ensures.silent.content tells).images
+
+pub returns-in-Ok-clause-grows : goal.returns-in-Ok-clause-grows
+returns-in-Ok-clause-grows g c tells =
+    says_reply c.say.result c.deref.result.now (g.H.Host.state c.args.host.now) (g.H.Host.state c.step.new.host) (g.H.Host.state c.say.new.host) (c.step.ensures.silent.content tells).said (c.say.ensures.said (c.step.ensures.cause.tells ∙ tells))
+
+pub returns-in-Err-clause-grows : goal.returns-in-Err-clause-grows
+returns-in-Err-clause-grows g c tells = record { more = []; said = (c.step.ensures.silent.content tells).said ∙ sym (append-nil (said_of (g.H.Host.state c.args.host.now))) }

@@ -1,8 +1,8 @@
 -- What a put does to the change set of records whose keys rise.
-use Rattle.std.proofs.Common.{◌≡◌, Bool, true, false, cond, not, T, ◌&&◌, List, [], ◌∷◌, ◌++◌, suc, ◌-◌, ◌<◌, length, take, drop, get_or, ◌==◌, eqb-true, arith, refl, sym, ap, subst, ◌∙◌}
-use Rattle.std.specs.Prelude.{Some, None, All, flat_map, Result, Ok, Err, OnOk, OnErr}
+use Rattle.std.proofs.Common.{◌≡◌, Bool, true, false, cond, not, T, ◌&&◌, List, [], ◌∷◌, ◌++◌, suc, ◌-◌, ◌<◌, ◌≤◌, ◌+◌, length, take, drop, get_or, ◌==◌, eqb-true, arith, refl, sym, ap, subst, ◌∙◌}
+use Rattle.std.specs.Prelude.{Some, None, is_some, All, flat_map, Result, Ok, Err, OnOk, OnErr}
 use Rattle.std.specs.Ordering.{eq_by_cmp, is_eq, is_lt}
-use Rattle.std.specs.FinMap.Entries.{below_all}
+use Rattle.std.specs.FinMap.Entries.{below_all, length-put}
 use Rattle.std.specs.Ordering.{ordering_reverse}
 use Rattle.std.proofs.lemmas.List.Sums.{fold-append}
 use Rattle.std.proofs.lemmas.List.{length-append, take_all}
@@ -12,8 +12,8 @@ use Rattle.dfs_record.specs.declared.Key.{Key}
 use Rattle.dfs_record.specs.declared.Record.{Record}
 use Rattle.dfs_record.specs.declared.Value.{Value}
 use Rattle.dfs_record.specs.Key.{key_cmp, keys_total}
-use Rattle.dfs_record.specs.KeyMap.{get, insert, empty}
-use Rattle.dfs_record.specs.Delta.{with_record, delta, or_else, last_value}
+use Rattle.dfs_record.specs.KeyMap.{get, insert, empty, len}
+use Rattle.dfs_record.specs.Delta.{Delta, with_record, delta, or_else, last_value}
 use Rattle.dfs_record.specs.Record.{IsRecord, IsValue}
 use Rattle.dfs_record.specs.Records.{KeysRise, IsBelow}
 use Rattle.dfs_record.proofs.Maps.{get-insert, same_map, alike_keys, same_key}
@@ -219,3 +219,11 @@ first_chunk f [] p (c ∷ cs) x none some at is rises valid filled =
       filled = All-tail (λ d. 0 < length (f d)) c cs filled;
       begun = λ _. subst (λ l. 0 < length l) (sym here) (All-head (λ d. 0 < length (f d)) c cs filled);
     })
+
+-- a put adds one key at most
+pub one_key_more : (d : Delta) (r : Record) → len (with_record d r) ≤ len d + 1
+one_key_more d r = by (is_some (get d r.key)) (length-put key_cmp keys_total r.key r.value d.entries d.sorted)
+  where
+    by : (b : Bool) → length (with_record d r).entries ≡ cond b (length d.entries) (length d.entries + 1) → length (with_record d r).entries ≤ length d.entries + 1
+    by true e = omega (arith, e)
+    by false e = omega (arith, e)

@@ -5,6 +5,8 @@ use Rattle.dfs_record.specs.Key.{key_cmp}
 use Rattle.dfs_record.specs.declared.Key.{Key}
 use Rattle.dfs_record.specs.declared.Record.{Record}
 use Rattle.dfs_record.specs.declared.Value.{Value}
+use Rattle.dfs_record.specs.Delta.{delta}
+use Rattle.dfs_record.specs.KeyMap.{len}
 use Rattle.dfs_record.specs.Record.{IsRecord}
 use Rattle.dfs_record.specs.Records.{KeysRise, IsBelow}
 
@@ -58,3 +60,8 @@ module _ {X : Type 0} (records : X → List Record) where
     pub here : 0 < length chunks → chunk < length chunks
     pub below : AreBelow (before chunks chunk index) key
     pub above : BeginsWith found (from chunks chunk index) key
+
+  -- a buffer of so many records: no key without a record that was put
+  pub record IsBuffer (chunks : List X) (made : ℕ) : Type 0 where
+    pub all : AreChunks chunks
+    pub few : made < 4294967295 → len (delta (flat_map records chunks)) ≤ made

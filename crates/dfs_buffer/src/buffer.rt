@@ -1,9 +1,9 @@
 //! The buffer.
 
-ghost use Rattle.std.specs.Prelude.{◌≡◌, ◌↔◌, List, [], ◌∷◌, ◌++◌, option_copied, IfSome, OnOk, OnErr, Some, None};
+ghost use Rattle.std.specs.Prelude.{All, ◌≡◌, ◌<◌, ◌≤◌, ◌↔◌, List, [], ◌∷◌, ◌++◌, option_copied, IfSome, OnOk, OnErr, Some, None};
 ghost use Rattle.dfs_record.specs.declared.Record.{Record as OwnRecord};
 ghost use Rattle.dfs_record.specs.Delta.{records_of, last_value};
-ghost use Rattle.dfs_record.specs.KeyMap.{get};
+ghost use Rattle.dfs_record.specs.KeyMap.{get, len};
 ghost use Rattle.dfs_record.specs.Lend.{key_of};
 ghost use Rattle.dfs_record.specs.Record.{IsRecord, IsValue};
 ghost use Rattle.dfs_record.specs.Records.{Files};
@@ -27,7 +27,7 @@ impl Model for Buffer {
     ghost use Rattle.std.specs.Prelude.{flat_map};
     ghost use Rattle.dfs_record.specs.Delta.{delta};
     ghost use Rattle.dfs_buffer.specs.Buffer.{Buffered, buffered_code};
-    ghost use Rattle.dfs_buffer.specs.Chunks.{AreChunks};
+    ghost use Rattle.dfs_buffer.specs.Chunks.{IsBuffer};
 
     ghost Value = { Buffered };
 
@@ -35,7 +35,7 @@ impl Model for Buffer {
 
     ghost view = { λ b. record { held = delta (flat_map (λ c. c.items) b.chunks.items); made = b.made } };
 
-    ghost invariant = { λ b. AreChunks (λ c. c.items) b.chunks.items };
+    ghost invariant = { λ b. IsBuffer (λ c. c.items) b.chunks.items b.made };
 }
 
 impl Buffer {
@@ -85,6 +85,7 @@ impl Buffer {
         ensures rest { ⟦<BufferRecords<'a> as Records>⟧.rest result ≡ part (Some low.now) None (records_of self.now.held) }
         ensures unread { ⟦<BufferRecords<'a> as Records>⟧.unread result ≡ 0 }
         ensures comes { (files : Files) (l : List OwnRecord) → ⟦<BufferRecords<'a> as Records>⟧.Comes result files l ↔ (l ≡ part (Some low.now) None (records_of self.now.held)) }
+        ensures valid { All IsRecord (records_of self.now.held) }
     {
         let (records, behind) = from_key(&self.chunks, low.lend());
         BufferRecords::over(records, behind)
@@ -92,7 +93,9 @@ impl Buffer {
 
     /// How many records were put since the buffer was cleared, counted up to the greatest `u32`.
     pub fn made(&self) -> u32
-        ensures { result ≡ self.now.made }
+        ensures made { result ≡ self.now.made }
+        // No key without a record that was put.
+        ensures few { self.now.made < 4294967295 → len self.now.held ≤ self.now.made }
     {
         self.made
     }

@@ -6,7 +6,7 @@ use Rattle.dfs_buffer.proofs.buffer.Buffer.records.Goals as goal
 
 pub returns-clause-rest : goal.returns-clause-rest
 returns-clause-rest c =
-    c.new.ensures ∙ ap (flat_map (λ x. x.items)) c.deref.ensures.value ∙ sym (records_of-delta (flat_map (λ x. x.items) c.self.inside.chunks.items) c.self.invariant.rises) ∙ ap (λ b. records_of b.held) c.self.view_is
+    c.new.ensures ∙ ap (flat_map (λ x. x.items)) c.deref.ensures.value ∙ sym (records_of-delta (flat_map (λ x. x.items) c.self.inside.chunks.items) c.self.invariant.all.rises) ∙ ap (λ b. records_of b.held) c.self.view_is
 
 pub returns-clause-comes : goal.returns-clause-comes
 returns-clause-comes c files l =

@@ -1,0 +1,31 @@
+use Rattle.std.proofs.Common.{◌∙◌, arith}
+use Rattle.dfs_view.proofs.Adding.{closed_map, closed_stand, closing_goes_on, on_ok, put_failed, put_goes_on, put_map}
+use Rattle.dfs_view.proofs.layers.add.Goals as goal
+
+pub returns-in_default-clause-goes_on : goal.returns-in_default-clause-goes_on
+returns-in_default-clause-goes_on g c = put_failed (g.H.Host.state c.args.host.now) c.args.layers.now c.put.new.self c.args.rec c.requires.fit.none_refused
+
+pub returns-then-made-layers-clause-map : goal.returns-then-made-layers-clause-map
+returns-then-made-layers-clause-map g c = λ tells. put_map (g.H.Host.state c.args.host.now) c.args.layers.now c.put.new.self c.args.rec c.in-Ok.ensures.ok
+
+pub returns-then-made-layers-clause-goes_on : goal.returns-then-made-layers-clause-goes_on
+returns-then-made-layers-clause-goes_on g c =
+    put_goes_on (g.H.Host.state c.args.host.now) c.args.layers.now c.put.new.self c.args.rec c.in-Ok.ensures.ok c.requires.fit.none_refused c.requires.fit.most c.in-Ok.ensures.stands (omega (arith, c.if-made-layers.true, c.made.ensures.made))
+
+pub returns-clause-stand : goal.returns-clause-stand
+returns-clause-stand g c = λ tells.
+    let s = c.requires.stand tells in
+    on_ok c.close.result c.close.ensures.closes.closed
+    (λ closed. closed_stand (g.H.Host.state c.args.host.now) (g.H.Host.state c.close.new.host) (record c.args.layers.now { buffer = c.put.new.self }) c.close.new.layers c.close.ensures.closes tells (record { log = s.log; runs = s.runs }) closed)
+
+pub returns-clause-map : goal.returns-clause-map
+returns-clause-map g c = λ tells.
+    let s = c.requires.stand tells in
+    on_ok c.close.result c.close.ensures.closes.closed
+    (λ closed. closed_map (g.H.Host.state c.args.host.now) (g.H.Host.state c.close.new.host) (record c.args.layers.now { buffer = c.put.new.self }) c.close.new.layers c.close.ensures.closes tells (record { log = s.log; runs = s.runs }) closed
+    ∙ put_map (g.H.Host.state c.args.host.now) c.args.layers.now c.put.new.self c.args.rec c.in-Ok.ensures.ok)
+
+pub returns-clause-goes_on : goal.returns-clause-goes_on
+returns-clause-goes_on g c =
+    closing_goes_on (g.H.Host.state c.args.host.now) (g.H.Host.state c.close.new.host) c.args.layers.now c.close.new.layers c.put.new.self c.args.rec c.in-Ok.ensures.ok c.requires.fit.room c.requires.fit.most (omega (arith, c.if-made-layers.false, c.made.ensures.made)) c.in-Ok.ensures.stands
+    c.close.ensures.cause.later c.requires.stand c.close.result c.close.ensures.closes

@@ -1,0 +1,95 @@
+-- The two laws of a view.
+use Rattle.std.specs.Prelude.{◌≡◌, ◌≤◌, ◌+◌, ◌*◌, ◌⊎◌, ℕ, Bool, true, false, not, IsTrue, IsFalse, cond, List, [], ◌∷◌, ◌++◌, length, take, refl}
+use Rattle.std.specs.List.{AllByRecursion}
+use Rattle.std.proofs.Common.{sym, ◌∙◌, ap, subst, inl, inr, arith, length-append, append_assoc}
+use Rattle.std.proofs.lemmas.List.{take_all, take-take, length-take, append-nil}
+use Rattle.dfs_host.specs.Host.{bytes_of, Only}
+use Rattle.dfs_host.proofs.Moments.{nothing_done, only_goes_on}
+use Rattle.dfs_record.specs.declared.Record.{Record}
+use Rattle.dfs_table.specs.declared.run.Run.{Run}
+use Rattle.dfs_table.specs.Writer.{AreIn}
+use Rattle.dfs_table.proofs.Stays.{all_append}
+use Rattle.dfs_view.specs.Lists.{Layered, add_one, add_all}
+use Rattle.dfs_view.specs.Layers.{AreFit, StandFor, own_runs}
+use Rattle.dfs_view.specs.View.{Pair, GoesOn, Parts, pair_of, ViewFollows}
+
+pub add_all-append : (limit : ℕ) (l : Layered) (rs ss : List Record) → add_all limit l (rs ++ ss) ≡ add_all limit (add_all limit l rs) ss
+add_all-append limit l [] ss = refl
+add_all-append limit l (r ∷ rs) ss = add_all-append limit (add_one limit l r) rs ss
+
+take_kept : (a b c : List ℕ) → take (length a) b ≡ a → take (length b) c ≡ b → take (length a) c ≡ a
+take_kept a b c first second =
+    let le : length a ≤ length b = omega (arith, ap length first, length-take (length a) b) in
+    sym (take-take (length a) (length b) c le) ∙ ap (take (length a)) second ∙ first
+
+pub goes_on_by_nothing : (p : Pair) → IsTrue p.live → p.layers.log.refused ≡ 0 → GoesOn p p []
+goes_on_by_nothing p live none = record {
+  later = omega arith;
+  only = record { tells = refl; say_faults = refl; content = λ tells. nothing_done p.host (λ bytes may. tt) };
+  limit = refl;
+  basis = refl;
+  file = refl;
+  log_limit = refl;
+  more = [];
+  runs = sym (append-nil (own_runs p.layers));
+  more_inside = tt;
+  growth = rw (live, none) (omega arith);
+  past = λ over. absurd (omega (arith, over, none));
+  added = λ tells live l stands. stands;
+  bytes = λ tells live. take_all _ _ (omega arith);
+}
+
+pub goes_on_on : (p q r : Pair) (rs ss : List Record) → IsTrue q.live → GoesOn p q rs → GoesOn q r ss → GoesOn p r (rs ++ ss)
+goes_on_on p q r rs ss live first second =
+    let then : Only p.layers.log.file q.host r.host = subst (λ n. Only n q.host r.host) first.file second.only in
+    record {
+      later = omega (arith, first.later, second.later);
+      only = only_goes_on first.only then;
+      limit = second.limit ∙ first.limit;
+      basis = second.basis ∙ first.basis;
+      file = second.file ∙ first.file;
+      log_limit = second.log_limit ∙ first.log_limit;
+      more = first.more ++ second.more;
+      runs = second.runs ∙ ap (λ l. l ++ second.more) first.runs ∙ append_assoc (own_runs p.layers) first.more second.more;
+      more_inside = all_append (λ (r : Run). AreIn p.layers.log.file r.tables) first.more second.more first.more_inside (subst (λ n. AllByRecursion (λ (r : Run). AreIn n r.tables) second.more) first.file second.more_inside);
+      growth =
+          let one = subst (λ (b : Bool). q.layers.log.len + q.layers.log.refused + 1100 * cond b q.layers.buffer.made 0 ≤ p.layers.log.len + 1100 * (p.layers.buffer.made + length rs)) live first.growth in
+          omega (arith, one, second.growth, length-append rs ss);
+      past = λ over. let past = second.past over in omega (arith, past, first.log_limit);
+      added = λ tells later l stands.
+          subst (StandFor r.host r.layers) (ap (λ n. add_all n (add_all p.layers.limit l rs) ss) first.limit ∙ sym (add_all-append p.layers.limit l rs ss))
+          (second.added (first.only.tells ∙ tells) later (add_all p.layers.limit l rs) (first.added tells live l stands));
+      bytes = λ tells later.
+          take_kept _ _ _ (first.bytes tells live)
+          (subst (λ n. take (length (bytes_of q.host n)) (bytes_of r.host n) ≡ bytes_of q.host n) first.file (second.bytes (first.only.tells ∙ tells) later));
+    }
+
+either : (b : Bool) → (b ≡ true) ⊎ (b ≡ false)
+either true = inl refl
+either false = inr refl
+
+pub view_follows_itself : (v : Parts) → (IsFalse v.spent → AreFit v.layers) → ViewFollows v v []
+view_follows_itself v fit = record {
+  same_host = refl;
+  same_layers = refl;
+  live = λ live. goes_on_by_nothing (pair_of v) (ap not live) (fit live).none_refused;
+  spent = λ spent. record { same = refl; none = refl };
+}
+
+pub view_follows_on : (v w x : Parts) (rs ss : List Record) → ViewFollows v w rs → ViewFollows w x ss → ViewFollows v x (rs ++ ss)
+view_follows_on v w x rs ss first second = record {
+  same_host = second.same_host ∙ first.same_host;
+  same_layers = second.same_layers ∙ first.same_layers;
+  live = λ live. elim (either w.spent) [
+    | inl spent ↦
+        let stays = second.spent spent in
+        let all : rs ++ ss ≡ rs = ap (λ l. rs ++ l) stays.none ∙ append-nil rs in
+        subst (λ (l : List Record). GoesOn (pair_of v) (pair_of x) l) (sym all)
+        (subst (λ (y : Parts). GoesOn (pair_of v) (pair_of y) rs) (sym stays.same) (first.live live))
+    | inr still ↦ goes_on_on (pair_of v) (pair_of w) (pair_of x) rs ss (ap not still) (first.live live) (second.live still)
+  ];
+  spent = λ spent.
+      let one = first.spent spent in
+      let two = second.spent (ap (λ (y : Parts). y.spent) one.same ∙ spent) in
+      record { same = two.same ∙ one.same; none = ap (λ l. l ++ ss) one.none ∙ two.none };
+}

@@ -1,0 +1,90 @@
+-- How a view goes on.
+use Rattle.std.specs.Prelude.{◌≡◌, ◌<◌, ◌≤◌, ◌+◌, ◌*◌, Bool, not, IsTrue, IsFalse, cond, List, [], ◌∷◌, ◌++◌, length, take, Result, OnOk, OnErr}
+use Rattle.std.specs.Borrow.{GName}
+use Rattle.std.specs.List.{AllByRecursion}
+use Rattle.dfs_host.specs.Host.{HostState, now, Told, bytes_of, Only}
+use Rattle.dfs_buffer.specs.Buffer.{nothing}
+use Rattle.dfs_log.specs.Logs.{LogStands}
+use Rattle.dfs_record.specs.declared.Record.{Record}
+use Rattle.dfs_table.specs.declared.run.Run.{Run}
+use Rattle.dfs_table.specs.Stored.{IsStored}
+use Rattle.dfs_table.specs.Writer.{AreIn}
+use Rattle.dfs_view.specs.declared.layers.Layers.{Layers}
+use Rattle.dfs_view.specs.Layers.{StandFor, own_runs}
+use Rattle.dfs_view.specs.Lists.{Layered, add_all}
+
+-- A host and layers, and whether they may be used.
+pub record Pair : Type 0 where
+  pub host : HostState
+  pub layers : Layers
+  pub live : Bool
+
+-- What a pair that may be used keeps, and what the records add.
+pub record GoesOn (old new : Pair) (records : List Record) : Type 0 where
+  pub later : now old.host ≤ now new.host
+  -- no file but the log's is written
+  pub only : Only old.layers.log.file old.host new.host
+  pub limit : new.layers.limit ≡ old.layers.limit
+  pub basis : new.layers.basis.items ≡ old.layers.basis.items
+  pub file : new.layers.log.file ≡ old.layers.log.file
+  pub log_limit : new.layers.log.limit ≡ old.layers.log.limit
+  -- each new run lies in the log's file
+  pub more : List Run
+  pub runs : own_runs new.layers ≡ own_runs old.layers ++ more
+  pub more_inside : AllByRecursion (λ r. AreIn old.layers.log.file r.tables) more
+  -- a record costs the log at most 1,100 bytes, a piece that was refused counted, and those of the open layer not
+  pub growth : new.layers.log.len + new.layers.log.refused + 1100 * cond new.live new.layers.buffer.made 0
+      ≤ old.layers.log.len + 1100 * (old.layers.buffer.made + length records)
+  -- a piece was refused only where it did not fit
+  pub past : 0 < new.layers.log.refused → old.layers.log.limit < new.layers.log.len + new.layers.log.refused
+  -- the records go to the end of the open layer, which closes where it has so many
+  pub added : Told old.host (IsTrue new.live → (l : Layered) → StandFor old.host old.layers l → StandFor new.host new.layers (add_all old.layers.limit l records))
+  -- the bytes that the log's file had stay in their places
+  pub bytes : Told old.host (IsTrue new.live → take (length (bytes_of old.host old.layers.log.file)) (bytes_of new.host old.layers.log.file) ≡ bytes_of old.host old.layers.log.file)
+
+-- The open layer is empty, and behind the runs there is one with its records.
+pub record IsClosed (host host_after : HostState) (old new : Layers) : Type 0 where
+  pub run : Run
+  pub runs : own_runs new ≡ own_runs old ++ run ∷ []
+  pub inside : AreIn old.log.file run.tables
+  pub emptied : new.buffer ≡ nothing
+  pub live : IsFalse new.log.spent
+  pub none_refused : new.log.refused ≡ 0
+  pub log : Told host (LogStands host_after new.log)
+  pub stored : Told host (IsStored (bytes_of host_after old.log.file) run old.buffer.held)
+
+-- What closing the open layer leaves, whatever the answer.
+pub record Closes {T E : Type 0} (host host_after : HostState) (old new : Layers) (result : Result T E) : Type 0 where
+  pub only : Only old.log.file host host_after
+  pub limit : new.limit ≡ old.limit
+  pub basis : new.basis.items ≡ old.basis.items
+  pub file : new.log.file ≡ old.log.file
+  pub log_limit : new.log.limit ≡ old.log.limit
+  pub growth : new.log.len + new.log.refused ≤ old.log.len + 1100 * old.buffer.made
+  pub past : 0 < new.log.refused → old.log.limit < new.log.len + new.log.refused
+  pub before : Told host (take old.log.len (bytes_of host_after old.log.file) ≡ bytes_of host old.log.file)
+  pub same_runs : OnErr result (own_runs new ≡ own_runs old)
+  pub closed : OnOk result (IsClosed host host_after old new)
+
+-- A view as its parts: the names of its two references, what is behind them, and whether it is spent.
+pub record Parts : Type 0 where
+  pub host_name : GName
+  pub layers_name : GName
+  pub host : HostState
+  pub layers : Layers
+  pub spent : Bool
+
+abbrev pub pair_of : Parts → Pair
+pair_of parts = record { host = parts.host; layers = parts.layers; live = not parts.spent }
+
+-- A spent view is followed by itself alone.
+pub record Stays (old new : Parts) (records : List Record) : Type 0 where
+  pub same : new ≡ old
+  pub none : records ≡ []
+
+-- It holds the same references. The names matter to whoever lent them: what is behind the view's at its end is behind the lender's.
+pub record ViewFollows (old new : Parts) (records : List Record) : Type 0 where
+  pub same_host : new.host_name ≡ old.host_name
+  pub same_layers : new.layers_name ≡ old.layers_name
+  pub live : IsFalse old.spent → GoesOn (pair_of old) (pair_of new) records
+  pub spent : IsTrue old.spent → Stays old new records

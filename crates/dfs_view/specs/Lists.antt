@@ -1,15 +1,11 @@
 -- The layers of a job as lists of records.
-use Rattle.std.specs.Prelude.{ℕ, ◌==◌, if◌then◌else◌, List, [], ◌∷◌, ◌++◌, length, flat_map}
+use Rattle.std.specs.Prelude.{ℕ, ◌==◌, if◌then◌else◌, List, [], ◌∷◌, ◌++◌, length}
 use Rattle.dfs_record.specs.declared.Record.{Record}
 
 -- The closed layers, the oldest first, and the open one.
 pub record Layered : Type 0 where
   pub closed : List (List Record)
   pub open_ : List Record
-
--- the records of all layers in order
-abbrev pub joined : Layered → List Record
-joined l = flat_map (λ rs. rs) l.closed ++ l.open_
 
 -- a record goes to the end of the open layer, which closes where it then has so many
 abbrev pub add_one : ℕ → Layered → Record → Layered
@@ -20,11 +16,3 @@ add_one limit l r =
 abbrev pub add_all : ℕ → Layered → List Record → Layered
 add_all limit l [] = l
 add_all limit l (r ∷ rs) = add_all limit (add_one limit l r) rs
-
--- the open layer closes, if it has a record
-abbrev pub close_open : List (List Record) → List Record → Layered
-close_open closed [] = record { closed = closed; open_ = [] }
-close_open closed (r ∷ rs) = record { closed = closed ++ (r ∷ rs) ∷ []; open_ = [] }
-
-abbrev pub close : Layered → Layered
-close l = close_open l.closed l.open_

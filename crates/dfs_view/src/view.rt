@@ -85,17 +85,21 @@ impl<'a, 'b, H: Host> Space for View<'a, 'b, H> {
     }
 
     fn any_child(&mut self, dir: DirId) -> Result<bool, Fault> {
-        match has_child(self.alloc, self.layers, dir) {
-            Ok(has) => Ok(has),
-            Err(_) => Err(Fault::NoMemory),
-        }
+        self.spent = true;
+        let Ok(has) = has_child(self.alloc, self.layers, dir) else {
+            return Err(Fault::NoMemory);
+        };
+        self.spent = false;
+        Ok(has)
     }
 
     fn list(&mut self, dir: DirId) -> Result<Listing, Fault> {
-        match children(self.alloc, self.layers, dir) {
-            Ok(listing) => Ok(listing),
-            Err(_) => Err(Fault::NoMemory),
-        }
+        self.spent = true;
+        let Ok(listing) = children(self.alloc, self.layers, dir) else {
+            return Err(Fault::NoMemory);
+        };
+        self.spent = false;
+        Ok(listing)
     }
 
     fn store(&mut self, rec: Record) -> Result<(), Fault> {

@@ -1,8 +1,9 @@
-use Rattle.dfs_view.specs.Going.{view_follows_itself}
+use Rattle.std.proofs.Common.{true, false, refl}
+use Rattle.dfs_view.proofs.Adding.{looks}
 use Rattle.dfs_view.proofs.view.ViewSpace.list.Goals as goal
 
-pub returns-in-Ok-clause-follows : goal.returns-in-Ok-clause-follows
-returns-in-Ok-clause-follows g c = view_follows_itself _ c.args.self.now.fit
+pub returns-in_default-clause-follows : goal.returns-in_default-clause-follows
+returns-in_default-clause-follows g c = looks _ (g.H.Host.state c.args.self.now.host.now) true c.requires.live (c.args.self.now.fit c.requires.live) refl
 
-pub returns-in-Err-clause-follows : goal.returns-in-Err-clause-follows
-returns-in-Err-clause-follows g c = view_follows_itself _ c.args.self.now.fit
+pub returns-clause-follows : goal.returns-clause-follows
+returns-clause-follows g c = looks _ (g.H.Host.state c.args.self.now.host.now) false c.requires.live (c.args.self.now.fit c.requires.live) refl

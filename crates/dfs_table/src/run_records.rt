@@ -15,7 +15,8 @@ ghost use Rattle.dfs_fence.specs.Ranges.{is_below as is_key_below, is_from, has_
 ghost use Rattle.dfs_table.specs.declared.table.Table.{Table as AnyTable};
 ghost use Rattle.dfs_table.specs.RunRecords.{BeginsIn, IsTakenOff, Reaches, blocks_from, blocks_left, coming, records_in, records_meeting, rest_of, rising_from};
 ghost use Rattle.dfs_table.specs.Stored.{IsTableOf};
-ghost use Rattle.dfs_table.specs.Tables.{AreTables};
+ghost use Rattle.dfs_table.specs.Counts.{count_of};
+ghost use Rattle.dfs_table.specs.Tables.{AreTables, all_fences};
 
 use crate::{Run, Table};
 use dfs_record::{Head, Key, KeyRef, NoMemory, RecordRef, Records, decode};
@@ -55,6 +56,8 @@ impl<'a> RunRecords<'a> {
         ensures rest { (file : List ℕ) → AllByRecursion (IsTableOf file) run.entry.now.tables → IfOk result (λ records. ⟦<RunRecords<'a> as Records>⟧.rest records ≡ records_meeting (option_copied low.entry) (option_copied high.entry) file run.entry.now.tables) }
         ensures comes { (files : Files) (number : ℕ) → AllByRecursion (IsTableOf (files number)) run.entry.now.tables → IfOk result (λ records. ⟦<RunRecords<'a> as Records>⟧.Comes records files (records_meeting (option_copied low.entry) (option_copied high.entry) (files number) run.entry.now.tables)) }
         ensures unread { IfOk result (λ records. ⟦<RunRecords<'a> as Records>⟧.unread records ≡ 0) }
+        // On every host: no more records than the fences count.
+        ensures few { IfOk result (λ records. length (⟦<RunRecords<'a> as Records>⟧.rest records) ≤ count_of (all_fences run.entry.now.tables)) }
     {
         let blocks = Blocks::new(alloc, run, low, high)?;
         let mut records = RunRecords {
@@ -134,6 +137,7 @@ impl<'a> Blocks<'a> {
     ) -> Result<Blocks<'a>, NoMemory>
         ensures tables { AreTables run.entry.now.tables }
         ensures blocks { (file : List ℕ) → AllByRecursion (IsTableOf file) run.entry.now.tables → IfOk result (λ blocks. records_in (blocks_left blocks.high blocks.tables.now blocks.next blocks.bytes.now) ≡ records_meeting (option_copied low.entry) (option_copied high.entry) file run.entry.now.tables) }
+        ensures few { IfOk result (λ blocks. length (records_in (blocks_left blocks.high blocks.tables.now blocks.next blocks.bytes.now)) ≤ count_of (all_fences run.entry.now.tables)) }
     {
         let tables = run.tables.from(low);
         let end = copied(alloc, high)?;

@@ -1,7 +1,8 @@
-use Rattle.std.proofs.Common.{sym, ◌∙◌, ap, ◌++◌}
+use Rattle.std.proofs.Common.{sym, ◌∙◌, ap, ◌++◌, arith, length}
 use Rattle.std.specs.Prelude.{option_copied}
 use Rattle.dfs_block.proofs.Spelled.{front_zero}
 use Rattle.dfs_table.specs.RunRecords.{records_in, blocks_left}
+use Rattle.dfs_table.proofs.Few.{rest_few}
 use Rattle.dfs_table.proofs.Running.{begun_rest, meeting_rises}
 use Rattle.dfs_table.proofs.run_records.RunRecords.new.Goals as goal
 
@@ -14,3 +15,13 @@ returns-clause-rest c = λ file each.
 
 pub returns-clause-comes : goal.returns-clause-comes
 returns-clause-comes c = λ files number each. sym (returns-clause-rest c (files number) each)
+
+pub returns-clause-few : goal.returns-clause-few
+returns-clause-few c =
+    let blocks = c.in_ok-blocks.blocks in
+    omega (
+      arith,
+      rest_few c.take-records.result _ _ c.take-records.ensures.taken,
+      ap (λ l. length (l ++ records_in (blocks_left blocks.high blocks.tables.now blocks.next blocks.bytes.now))) (front_zero _),
+      c.in_ok-blocks.ensures.few,
+    )

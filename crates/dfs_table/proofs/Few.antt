@@ -2,7 +2,7 @@
 use Rattle.std.proofs.Common.{◌≡◌, ◌≤◌, ◌+◌, ◌∷◌, ◌++◌, [], ℕ, zero, suc, Bool, true, false, if◌then◌else◌, List, length, take, drop, map, arith, refl, ap, sym, length-append}
 use Rattle.std.specs.Prelude.{Option, Some, None}
 use Rattle.std.specs.List.{sum_by}
-use Rattle.std.proofs.lemmas.List.Sums.{sum_by-append, sum_by-take-drop}
+use Rattle.std.proofs.lemmas.List.Sums.{sum_by-append, sum_by-cons, sum_by-take-drop}
 use Rattle.std.proofs.lemmas.Grind.{flat_map-append}
 use Rattle.std.specs.Ordering.{is_lt}
 use Rattle.dfs_record.specs.declared.Key.{Key}
@@ -23,22 +23,22 @@ use Rattle.dfs_table.specs.Tables.{all_fences}
 front_few : (n : ℕ) (bytes : List ℕ) → length (records_front n bytes) ≤ n
 unfolding records_front
 front_few zero bytes = omega arith
-front_few (suc n) bytes = by (record_at bytes)
+front_few (suc n) bytes = by (front_few n) (record_at bytes)
   where
-    by : (o : Option (Record × List ℕ)) → length (first_and o (λ rest. records_front n rest)) ≤ suc n
-    by None = omega arith
-    by (Some x) = omega (arith, front_few n x.1)
+    by : ((rest : List ℕ) → length (records_front n rest) ≤ n) → (o : Option (Record × List ℕ)) → length (first_and o (λ rest. records_front n rest)) ≤ suc n
+    by behind None = omega arith
+    by behind (Some x) = omega (arith, behind x.1)
 
-counts : List (Fence × List ℕ) → ℕ
+abbrev counts : List (Fence × List ℕ) → ℕ
 counts bs = sum_by (λ (b : Fence × List ℕ). b.0.count) bs
 
 rising_few : (key : Key) (rs : List Record) → length (rising_from key rs) ≤ length rs
 rising_few key [] = omega arith
-rising_few key (r ∷ rs) = by (is_lt (key_cmp key r.key))
+rising_few key (r ∷ rs) = by (rising_few r.key rs) (is_lt (key_cmp key r.key))
   where
-    by : (b : Bool) → length (if b then r ∷ rising_from r.key rs else []) ≤ length (r ∷ rs)
-    by true = omega (arith, rising_few r.key rs)
-    by false = omega arith
+    by : length (rising_from r.key rs) ≤ length rs → (b : Bool) → length (if b then r ∷ rising_from r.key rs else []) ≤ length (r ∷ rs)
+    by behind true = omega (arith, behind)
+    by behind false = omega arith
 
 pub rest_few : (o : Option RecordRef) (old new : List Record) → IsTakenOff o old new → length (rest_of o new) ≤ length old
 rest_few None old new taken = omega arith
@@ -46,15 +46,24 @@ rest_few (Some r) old new taken = omega (arith, ap length taken, rising_few (key
 
 records_few : (high : Option Key) (bs : List (Fence × List ℕ)) → length (records_in (map counted (up_to high bs))) ≤ counts bs
 records_few high [] = omega arith
-records_few high (b ∷ bs) = by (is_below b.0.first high)
+records_few high (b ∷ bs) = by (records_few high bs) (is_below b.0.first high)
   where
-    by : (c : Bool) → length (records_in (map counted (if c then b ∷ up_to high bs else []))) ≤ counts (b ∷ bs)
-    by true = omega (arith, front_few b.0.count (drop 2 b.1), records_few high bs, length-append (records_front b.0.count (drop 2 b.1)) (records_in (map counted (up_to high bs))))
-    by false = omega arith
+    all : counts (b ∷ bs) ≡ b.0.count + counts bs
+    all = sum_by-cons (λ (b : Fence × List ℕ). b.0.count) b bs
+
+    by : length (records_in (map counted (up_to high bs))) ≤ counts bs → (c : Bool) → length (records_in (map counted (if c then b ∷ up_to high bs else []))) ≤ counts (b ∷ bs)
+    by behind true = omega (arith, all, front_few b.0.count (drop 2 b.1), behind, length-append (records_front b.0.count (drop 2 b.1)) (records_in (map counted (up_to high bs))))
+    by behind false = omega arith
 
 blocks_count : (bytes : List ℕ) (fs : List Fence) → counts (blocks_of bytes fs) ≡ count_of fs
 blocks_count bytes [] = refl
-blocks_count bytes (f ∷ fs) = ap (λ n. f.count + n) (blocks_count (drop f.len bytes) fs)
+blocks_count bytes (f ∷ fs) =
+    omega (
+      arith,
+      sum_by-cons (λ (b : Fence × List ℕ). b.0.count) (f, take f.len bytes) (blocks_of (drop f.len bytes) fs),
+      sum_by-cons (λ (g : Fence). g.count) f fs,
+      blocks_count (drop f.len bytes) fs,
+    )
 
 count-append : (fs gs : List Fence) → count_of (fs ++ gs) ≡ count_of fs + count_of gs
 count-append fs gs = sum_by-append (λ (f : Fence). f.count) fs gs

@@ -1,11 +1,11 @@
 -- What a record that is added does to the layers.
 use Rattle.std.proofs.Common.{◌≡◌, ◌≢◌, ◌≤◌, ◌<◌, ◌+◌, ◌*◌, ◌==◌, ℕ, Bool, true, false, cond, if◌then◌else◌, List, [], ◌∷◌, ◌++◌, length, take, drop, map, refl, sym, ap, subst, ◌∙◌, arith, length-append, append_assoc, append-nil, take_all}
 use Rattle.std.specs.Prelude.{not, Option, Some, None, Result, Ok, Err, OnOk, IsTrue, is_ok, flat_map}
-use Rattle.std.specs.List.{AllByRecursion}
+use Rattle.std.specs.List.{AllByRecursion, sum_by}
 use Rattle.std.proofs.lemmas.Bool.Decides.{nat_tests}
 use Rattle.std.proofs.lemmas.Grind.{flat_map-append}
 use Rattle.std.proofs.lemmas.List.{map-append, take-append-drop}
-use Rattle.std.proofs.lemmas.List.Sums.{fold-append}
+use Rattle.std.proofs.lemmas.List.Sums.{fold-append, sum_by-append, sum_by-cons}
 use Rattle.dfs_host.specs.Host.{HostState, Told, bytes_of, now}
 use Rattle.dfs_host.specs.declared.fault.Fault.{Fault}
 use Rattle.dfs_host.proofs.Moments.{nothing_done}
@@ -22,9 +22,9 @@ use Rattle.dfs_table.specs.declared.run.Run.{Run}
 use Rattle.dfs_table.specs.Stored.{IsStored, IsTableOf, run_records}
 use Rattle.dfs_table.proofs.Stays.{all_append, all_weaker, run_stays, tables_stay}
 use Rattle.dfs_view.specs.declared.layers.Layers.{Layers}
-use Rattle.dfs_view.specs.Layers.{AreFit, AreStored, LiesIn, Stand, StandFor, entry_left, layers_map, own_runs, records_on, runs_of}
-use Rattle.dfs_view.specs.Lists.{Layered}
-use Rattle.dfs_view.specs.View.{Closes, GoesOn, IsClosed, Parts, ViewFollows, pair_of}
+use Rattle.dfs_view.specs.Layers.{AreFit, AreStored, LiesIn, Stand, StandFor, entry_left, layers_map, own_runs, records_on, run_count, runs_of}
+use Rattle.dfs_view.specs.Lists.{Layered, add_all, closed_by, flushed}
+use Rattle.dfs_view.specs.View.{Closes, GoesOn, IsClosed, Parts, ViewFollows, WorksOn, closed_count, pair_of}
 use Rattle.dfs_view.proofs.Parts.{records_in_file}
 
 pub on_ok : {T E P Q : Type 0} (result : Result T E) → OnOk result P → (P → Q) → OnOk result Q
@@ -61,7 +61,8 @@ put_failed host layers b r none = record {
   log_limit = refl;
   more = [];
   runs = sym (append-nil (own_runs layers));
-  more_inside = tt;
+  more_own = tt;
+  counted = omega arith;
   growth = omega (arith, none);
   past = λ over. absurd (omega (arith, over, none));
   added = λ tells live. absurd (cc live);
@@ -89,7 +90,8 @@ module _ (host : HostState) (layers : Layers) (b : Buffered) (r : Record) (is : 
     log_limit = refl;
     more = [];
     runs = sym (append-nil (own_runs layers));
-    more_inside = tt;
+    more_own = tt;
+    counted = omega (arith, made_more);
     growth = omega (arith, none, made_more);
     past = λ over. absurd (omega (arith, over, none));
     added = λ tells live l stands.
@@ -156,7 +158,7 @@ module _ (host after : HostState) (old new : Layers) {T E : Type 0} {result : Re
         ∙ ap (λ l. (map (λ c. (c.value.listed.job, c.value.run.value)) old.basis.items ++ l) ++ (old.log.file, closed.run) ∷ []) (sym (paired (λ r. r.value) old.log.file old.runs.items))
 
     run_lies : LiesIn after old.log.file closed.run
-    run_lies = record { each = (closed.stored tells).each; inside = closed.inside }
+    run_lies = record { each = (closed.stored tells).each; inside = closed.own.inside }
 
     pub closed_stand : Stand after new
     closed_stand = record {
@@ -166,7 +168,7 @@ module _ (host after : HostState) (old new : Layers) {T E : Type 0} {result : Re
 
     pub closed_map : layers_map after new ≡ layers_map host old
     closed_map =
-        let own : records_on after closed.run ≡ records_of old.buffer.held = records_in_file after old.log.file closed.run.tables closed.inside ∙ (closed.stored tells).records in
+        let own : records_on after closed.run ≡ records_of old.buffer.held = records_in_file after old.log.file closed.run.tables closed.own.inside ∙ (closed.stored tells).records in
         (λ i. after_records empty (flat_map (λ (r : ℕ × Run). records_on after r.1) (runs_more i) ++ records_of (closed.emptied i).held))
         ∙ ap (after_records empty)
         (append-nil (flat_map (λ (r : ℕ × Run). records_on after r.1) (runs_of old ++ (old.log.file, closed.run) ∷ []))
@@ -196,22 +198,21 @@ module _ (host after : HostState) (old new : Layers) {T E : Type 0} {result : Re
         subst (λ n. AreStored (bytes_of after n) (own_runs new) (ls ++ l ∷ [])) (sym closes.file)
         (subst (λ rs. AreStored (bytes_of after old.log.file) rs (ls ++ l ∷ [])) (sym closed.runs) (one_stored (bytes_of after old.log.file) (own_runs old) ls closed.run l kept last))
 
--- a record with which the open layer closes
-module _ (host after : HostState) (old new : Layers) (b : Buffered) (r : Record) (is : b ≡ after_put old.buffer r) (room : old.buffer.made < old.limit) (most : old.limit ≤ 65536) (full : old.limit ≤ b.made)
-    (stands_more : (rs : List Record) → StandsFor old.buffer rs → StandsFor b (rs ++ r ∷ [])) (later : now host ≤ now after) (stand : Told host (Stand host old)) where
+-- the open layer closes with these records, which the buffer has
+pub record ClosesWith (b : Buffered) (l later : Layered) : Type 0 where
+  pub records : List Record
+  pub stood : StandsFor b records
+  pub is : later ≡ record { closed = l.closed ++ records ∷ []; open_ = [] }
+
+-- The open layer closes with what the buffer then has, so many records more than before.
+module _ (host after : HostState) (old new : Layers) (b : Buffered) (count : ℕ) (becomes : Layered → Layered) (made : b.made ≤ old.buffer.made + count) (later : now host ≤ now after) (stand : Told host (Stand host old))
+    (closes_with : (l : Layered) → StandFor host old l → ClosesWith b l (becomes l)) where
   mid_stand : IsTrue host.tells → Stand host (record old { buffer = b })
   mid_stand tells = let s = stand tells in record { log = s.log; runs = s.runs }
 
-  one_made : b.made ≤ old.buffer.made + 1
-  one_made = omega (arith, ap (λ (x : Buffered). x.made) is)
-
-  closes_here : (l : Layered) → StandFor host old l → (length (l.open_ ++ r ∷ []) == old.limit) ≡ true
-  closes_here l stands =
-      is_full (length (l.open_ ++ r ∷ [])) (length l.open_) old.limit (omega (arith, length-append l.open_ (r ∷ []))) (subst (λ n. n < old.limit) stands.open_.made room) (subst (λ n. old.limit ≤ n) (stands_more l.open_ stands.open_).made full) most
-
-  pub closing_goes_on : {A : Type 0} (result : Result A Fault) → Closes host after (record old { buffer = b }) new result
-      → GoesOn (record { host = host; layers = old; live = true }) (record { host = after; layers = new; live = is_ok result }) (r ∷ [])
-  closing_goes_on (Err e) closes = record {
+  pub closing_works : {A : Type 0} (result : Result A Fault) → Closes host after (record old { buffer = b }) new result
+      → WorksOn (record { host = host; layers = old; live = true }) (record { host = after; layers = new; live = is_ok result }) count becomes
+  closing_works (Err e) closes = record {
     later = later;
     only = closes.only;
     limit = closes.limit;
@@ -220,13 +221,14 @@ module _ (host after : HostState) (old new : Layers) (b : Buffered) (r : Record)
     log_limit = closes.log_limit;
     more = [];
     runs = closes.same_runs ∙ sym (append-nil (own_runs old));
-    more_inside = tt;
-    growth = omega (arith, closes.growth, one_made);
+    more_own = tt;
+    counted = omega (arith, ap (λ rs. sum_by run_count rs) closes.same_runs);
+    growth = omega (arith, closes.growth, made);
     past = closes.past;
     added = λ tells live. absurd (cc live);
     bytes = λ tells live. absurd (cc live);
   }
-  closing_goes_on (Ok x) closes =
+  closing_works (Ok x) closes =
       let closed = closes.closed in
       record {
         later = later;
@@ -237,18 +239,78 @@ module _ (host after : HostState) (old new : Layers) (b : Buffered) (r : Record)
         log_limit = closes.log_limit;
         more = closed.run ∷ [];
         runs = closed.runs;
-        more_inside = (closed.inside, tt);
-        growth = omega (arith, closes.growth, one_made, ap (λ (y : Buffered). y.made) closed.emptied);
+        more_own = (closed.own, tt);
+        counted = omega (
+          arith,
+          ap (λ rs. sum_by run_count rs) closed.runs,
+          sum_by-append run_count (own_runs old) (closed.run ∷ []),
+          sum_by-cons run_count closed.run [],
+          closed.count,
+          made,
+          ap (λ (y : Buffered). y.made) closed.emptied,
+        );
+        growth = omega (arith, closes.growth, made, ap (λ (y : Buffered). y.made) closed.emptied);
         past = closes.past;
         added = λ tells live l stands.
-            subst (StandFor after new)
-            (sym (ap (λ c. if c then record { closed = l.closed ++ (l.open_ ++ r ∷ []) ∷ []; open_ = [] } else record { closed = l.closed; open_ = l.open_ ++ r ∷ [] }) (closes_here l stands)))
+            let with = closes_with l stands in
+            subst (StandFor after new) (sym with.is)
             (record {
-              closed = closed_stores host after (record old { buffer = b }) new closes tells (mid_stand tells) closed l.closed (l.open_ ++ r ∷ []) stands.closed (stands_more l.open_ stands.open_);
+              closed = closed_stores host after (record old { buffer = b }) new closes tells (mid_stand tells) closed l.closed with.records stands.closed with.stood;
               open_ = subst (λ (y : Buffered). StandsFor y []) (sym closed.emptied) (record { held = refl; made = refl });
             });
         bytes = λ tells live. ap (λ n. take n (bytes_of after old.log.file)) (stand tells).log.len ∙ closes.before tells;
       }
+
+-- a record with which the open layer closes
+pub closes_with_one : (host : HostState) (old : Layers) (b : Buffered) (r : Record) → old.buffer.made < old.limit → old.limit ≤ 65536 → old.limit ≤ b.made
+    → ((rs : List Record) → StandsFor old.buffer rs → StandsFor b (rs ++ r ∷ [])) → (l : Layered) → StandFor host old l → ClosesWith b l (add_all old.limit l (r ∷ []))
+closes_with_one host old b r room most full stands_more l stands =
+    let stood = stands_more l.open_ stands.open_ in
+    let here : (length (l.open_ ++ r ∷ []) == old.limit) ≡ true
+        = is_full (length (l.open_ ++ r ∷ [])) (length l.open_) old.limit (omega (arith, length-append l.open_ (r ∷ []))) (subst (λ n. n < old.limit) stands.open_.made room) (subst (λ n. old.limit ≤ n) stood.made full) most in
+    record {
+      records = l.open_ ++ r ∷ [];
+      stood = stood;
+      is = ap (λ c. if c then record { closed = l.closed ++ (l.open_ ++ r ∷ []) ∷ []; open_ = [] } else record { closed = l.closed; open_ = l.open_ ++ r ∷ [] }) here;
+    }
+
+-- ---- closing where there is a record
+
+flushed_some : (l : Layered) → 0 < length l.open_ → flushed l ≡ record { closed = l.closed ++ l.open_ ∷ []; open_ = [] }
+flushed_some l some = by l.open_ some
+  where
+    by : (rs : List Record) → 0 < length rs → closed_by rs l ≡ record { closed = l.closed ++ rs ∷ []; open_ = [] }
+    by [] some = absurd (omega (arith, some))
+    by (r ∷ rs) some = refl
+
+flushed_none : (l : Layered) → length l.open_ ≡ 0 → flushed l ≡ l
+flushed_none l none = by l.open_ none
+  where
+    by : (rs : List Record) → length rs ≡ 0 → closed_by rs l ≡ l
+    by [] none = refl
+    by (r ∷ rs) none = absurd (omega (arith, none))
+
+pub closes_with_all : (host : HostState) (old : Layers) → 0 < old.buffer.made → (l : Layered) → StandFor host old l → ClosesWith old.buffer l (flushed l)
+closes_with_all host old some l stands = record { records = l.open_; stood = stands.open_; is = flushed_some l (omega (arith, some, stands.open_.made)) }
+
+pub none_to_close : (host : HostState) (layers : Layers) → AreFit layers → layers.buffer.made ≡ 0
+    → WorksOn (record { host = host; layers = layers; live = true }) (record { host = host; layers = layers; live = true }) 0 flushed
+none_to_close host layers fit none = record {
+  later = omega arith;
+  only = record { tells = refl; say_faults = refl; content = λ tells. nothing_done host (λ bytes may. tt) };
+  limit = refl;
+  basis = refl;
+  file = refl;
+  log_limit = refl;
+  more = [];
+  runs = sym (append-nil (own_runs layers));
+  more_own = tt;
+  counted = omega arith;
+  growth = omega (arith, fit.none_refused);
+  past = λ over. absurd (omega (arith, over, fit.none_refused));
+  added = λ tells live l stands. subst (StandFor host layers) (sym (flushed_none l (omega (arith, none, stands.open_.made)))) stands;
+  bytes = λ tells live. take_all _ _ (omega arith);
+}
 
 -- ---- looks
 
@@ -275,7 +337,8 @@ looks v host s live fit same = record {
       log_limit = refl;
       more = [];
       runs = sym (append-nil (own_runs v.layers));
-      more_inside = tt;
+      more_own = tt;
+      counted = omega (arith, all (not s));
       growth = omega (arith, fit.none_refused, all (not s));
       past = λ over. absurd (omega (arith, over, fit.none_refused));
       added = λ tells live l stands. stands;

@@ -7,11 +7,10 @@ use Rattle.dfs_host.specs.Host.{bytes_of, Only}
 use Rattle.dfs_host.proofs.Moments.{nothing_done, only_goes_on}
 use Rattle.dfs_record.specs.declared.Record.{Record}
 use Rattle.dfs_table.specs.declared.run.Run.{Run}
-use Rattle.dfs_table.specs.Writer.{AreIn}
 use Rattle.dfs_table.proofs.Stays.{all_append}
 use Rattle.dfs_view.specs.Lists.{Layered, add_one, add_all}
 use Rattle.dfs_view.specs.Layers.{AreFit, StandFor, own_runs}
-use Rattle.dfs_view.specs.View.{Pair, GoesOn, Parts, pair_of, ViewFollows}
+use Rattle.dfs_view.specs.View.{Pair, GoesOn, IsOwnRun, Parts, closed_count, pair_of, ViewFollows}
 
 pub add_all-append : (limit : ℕ) (l : Layered) (rs ss : List Record) → add_all limit l (rs ++ ss) ≡ add_all limit (add_all limit l rs) ss
 add_all-append limit l [] ss = refl
@@ -32,7 +31,8 @@ goes_on_by_nothing p live none = record {
   log_limit = refl;
   more = [];
   runs = sym (append-nil (own_runs p.layers));
-  more_inside = tt;
+  more_own = tt;
+  counted = rw live (omega arith);
   growth = rw (live, none) (omega arith);
   past = λ over. absurd (omega (arith, over, none));
   added = λ tells live l stands. stands;
@@ -51,7 +51,10 @@ goes_on_on p q r rs ss live first second =
       log_limit = second.log_limit ∙ first.log_limit;
       more = first.more ++ second.more;
       runs = second.runs ∙ ap (λ l. l ++ second.more) first.runs ∙ append_assoc (own_runs p.layers) first.more second.more;
-      more_inside = all_append (λ (r : Run). AreIn p.layers.log.file r.tables) first.more second.more first.more_inside (subst (λ n. AllByRecursion (λ (r : Run). AreIn n r.tables) second.more) first.file second.more_inside);
+      more_own = all_append (IsOwnRun p.layers.log.file) first.more second.more first.more_own (subst (λ n. AllByRecursion (IsOwnRun n) second.more) first.file second.more_own);
+      counted =
+          let one = subst (λ (b : Bool). closed_count q.layers + cond b q.layers.buffer.made 0 ≤ closed_count p.layers + (p.layers.buffer.made + length rs)) live first.counted in
+          omega (arith, one, second.counted, length-append rs ss);
       growth =
           let one = subst (λ (b : Bool). q.layers.log.len + q.layers.log.refused + 1100 * cond b q.layers.buffer.made 0 ≤ p.layers.log.len + 1100 * (p.layers.buffer.made + length rs)) live first.growth in
           omega (arith, one, second.growth, length-append rs ss);

@@ -10,8 +10,11 @@ use Rattle.dfs_record.specs.Delta.{delta, records_of}
 use Rattle.dfs_record.specs.KeyMap.{empty}
 use Rattle.dfs_record.specs.Namespace.{Namespace, after_records}
 use Rattle.dfs_buffer.specs.Buffer.{StandsFor}
+use Rattle.dfs_change.specs.declared.change.Change.{Change}
 use Rattle.dfs_log.specs.Logs.{LogStands}
 use Rattle.dfs_table.specs.declared.run.Run.{Run}
+use Rattle.dfs_table.specs.Counts.{count_of}
+use Rattle.dfs_table.specs.Tables.{all_fences}
 use Rattle.dfs_table.specs.Stored.{IsTableOf, IsStored, table_records}
 use Rattle.dfs_table.specs.Writer.{AreIn}
 use Rattle.dfs_view.specs.declared.layers.Layers.{Layers}
@@ -29,6 +32,14 @@ IsHeld host run = AllByRecursion (λ t. IsTableOf (bytes_of host t.file) t) run.
 -- the records of the run's tables, each in its own file
 abbrev pub records_on : HostState → Run → List Record
 records_on host run = flat_map (λ t. table_records (bytes_of host t.file) t) run.tables
+
+-- the selected change sets, in the order of selection
+abbrev pub selected : Layers → List Change
+selected layers = map (λ c. c.value) layers.basis.items
+
+-- how many records the fences of the run count
+abbrev pub run_count : Run → ℕ
+run_count run = count_of (all_fences run.tables)
 
 -- the runs of the closed layers, the oldest first
 abbrev pub own_runs : Layers → List Run

@@ -1,7 +1,7 @@
 -- How a view goes on.
-use Rattle.std.specs.Prelude.{◌≡◌, ◌<◌, ◌≤◌, ◌+◌, ◌*◌, Bool, not, IsTrue, IsFalse, cond, List, [], ◌∷◌, ◌++◌, length, take, Result, OnOk, OnErr}
+use Rattle.std.specs.Prelude.{◌≡◌, ◌<◌, ◌≤◌, ◌+◌, ◌*◌, ℕ, Bool, not, IsTrue, IsFalse, cond, List, [], ◌∷◌, ◌++◌, length, take, Result, OnOk, OnErr}
 use Rattle.std.specs.Borrow.{GName}
-use Rattle.std.specs.List.{AllByRecursion}
+use Rattle.std.specs.List.{AllByRecursion, sum_by}
 use Rattle.dfs_host.specs.Host.{HostState, now, Told, bytes_of, Only}
 use Rattle.dfs_buffer.specs.Buffer.{nothing}
 use Rattle.dfs_log.specs.Logs.{LogStands}
@@ -10,7 +10,7 @@ use Rattle.dfs_table.specs.declared.run.Run.{Run}
 use Rattle.dfs_table.specs.Stored.{IsStored}
 use Rattle.dfs_table.specs.Writer.{AreIn}
 use Rattle.dfs_view.specs.declared.layers.Layers.{Layers}
-use Rattle.dfs_view.specs.Layers.{StandFor, own_runs}
+use Rattle.dfs_view.specs.Layers.{StandFor, own_runs, run_count}
 use Rattle.dfs_view.specs.Lists.{Layered, add_all}
 
 -- A host and layers, and whether they may be used.
@@ -19,8 +19,17 @@ pub record Pair : Type 0 where
   pub layers : Layers
   pub live : Bool
 
--- What a pair that may be used keeps, and what the records add.
-pub record GoesOn (old new : Pair) (records : List Record) : Type 0 where
+-- A run of the job's own: its tables lie in the file, and a manifest may tell of them.
+pub record IsOwnRun (file : ℕ) (run : Run) : Type 0 where
+  pub inside : AreIn file run.tables
+  pub few : length run.tables ≤ 131072
+
+-- how many records the closed layers have
+abbrev pub closed_count : Layers → ℕ
+closed_count layers = sum_by run_count (own_runs layers)
+
+-- What a pair that may be used keeps, where so many records come in and the layers become others.
+pub record WorksOn (old new : Pair) (count : ℕ) (becomes : Layered → Layered) : Type 0 where
   pub later : now old.host ≤ now new.host
   -- no file but the log's is written
   pub only : Only old.layers.log.file old.host new.host
@@ -28,25 +37,31 @@ pub record GoesOn (old new : Pair) (records : List Record) : Type 0 where
   pub basis : new.layers.basis.items ≡ old.layers.basis.items
   pub file : new.layers.log.file ≡ old.layers.log.file
   pub log_limit : new.layers.log.limit ≡ old.layers.log.limit
-  -- each new run lies in the log's file
+  -- each new run is the job's own
   pub more : List Run
   pub runs : own_runs new.layers ≡ own_runs old.layers ++ more
-  pub more_inside : AllByRecursion (λ r. AreIn old.layers.log.file r.tables) more
+  pub more_own : AllByRecursion (IsOwnRun old.layers.log.file) more
+  -- the closed layers get no more records than came in
+  pub counted : closed_count new.layers + cond new.live new.layers.buffer.made 0 ≤ closed_count old.layers + (old.layers.buffer.made + count)
   -- a record costs the log at most 1,100 bytes, a piece that was refused counted, and those of the open layer not
   pub growth : new.layers.log.len + new.layers.log.refused + 1100 * cond new.live new.layers.buffer.made 0
-      ≤ old.layers.log.len + 1100 * (old.layers.buffer.made + length records)
+      ≤ old.layers.log.len + 1100 * (old.layers.buffer.made + count)
   -- a piece was refused only where it did not fit
   pub past : 0 < new.layers.log.refused → old.layers.log.limit < new.layers.log.len + new.layers.log.refused
-  -- the records go to the end of the open layer, which closes where it has so many
-  pub added : Told old.host (IsTrue new.live → (l : Layered) → StandFor old.host old.layers l → StandFor new.host new.layers (add_all old.layers.limit l records))
+  pub added : Told old.host (IsTrue new.live → (l : Layered) → StandFor old.host old.layers l → StandFor new.host new.layers (becomes l))
   -- the bytes that the log's file had stay in their places
   pub bytes : Told old.host (IsTrue new.live → take (length (bytes_of old.host old.layers.log.file)) (bytes_of new.host old.layers.log.file) ≡ bytes_of old.host old.layers.log.file)
+
+-- the records go to the end of the open layer, which closes where it has so many
+abbrev pub GoesOn : Pair → Pair → List Record → Type 0
+GoesOn old new records = WorksOn old new (length records) (λ l. add_all old.layers.limit l records)
 
 -- The open layer is empty, and behind the runs there is one with its records.
 pub record IsClosed (host host_after : HostState) (old new : Layers) : Type 0 where
   pub run : Run
   pub runs : own_runs new ≡ own_runs old ++ run ∷ []
-  pub inside : AreIn old.log.file run.tables
+  pub own : IsOwnRun old.log.file run
+  pub count : run_count run ≤ old.buffer.made
   pub emptied : new.buffer ≡ nothing
   pub live : IsFalse new.log.spent
   pub none_refused : new.log.refused ≡ 0

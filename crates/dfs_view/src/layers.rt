@@ -6,7 +6,8 @@ ghost use Rattle.dfs_host.specs.Host.{Told};
 ghost use Rattle.dfs_record.specs.Namespace.{after_record};
 ghost use Rattle.dfs_record.specs.Record.{IsRecord};
 ghost use Rattle.dfs_view.specs.Layers.{AreFit, Stand, layers_map, runs_of};
-ghost use Rattle.dfs_view.specs.View.{Closes, GoesOn};
+ghost use Rattle.dfs_view.specs.Lists.{flushed};
+ghost use Rattle.dfs_view.specs.View.{Closes, GoesOn, WorksOn};
 
 use dfs_buffer::Buffer;
 use dfs_change::Change;
@@ -77,8 +78,30 @@ pub(crate) fn add<H: Host>(
     close(alloc, host, layers)
 }
 
+/// Closes the open layer, where it has a record. `LogFull` exactly where the log refused a piece.
+pub fn flush<H: Host>(alloc: Global, host: &mut H, layers: &mut Layers) -> Result<(), Fault>
+    requires fit { AreFit layers.old }
+    requires stand { Told (H.state host.old) (Stand (H.state host.old) layers.old) }
+
+    ensures fit { OnOk result (AreFit layers.new) }
+    ensures stand { Told (H.state host.old) (OnOk result (Stand (H.state host.new) layers.new)) }
+    ensures emptied { OnOk result (layers.new.buffer.made ≡ 0) }
+    // No record comes in, and the open layer closes where it has one.
+    ensures works { WorksOn (record { host = H.state host.old; layers = layers.old; live = true }) (record { host = H.state host.new; layers = layers.new; live = is_ok result }) 0 flushed }
+    ensures full { IsErrOf result Fault.LogFull ↔ (0 < layers.new.log.refused) }
+    ensures cause { HasFaultCause (H.state host.old) (H.state host.new) result }
+    ensures reads { (H.state host.new).reads ≡ (H.state host.old).reads }
+{
+    // Read here, since a log that is not spent refused nothing.
+    let _ = layers.log.len();
+    if layers.buffer.made() == 0 {
+        return Ok(());
+    }
+    close(alloc, host, layers)
+}
+
 // Closes the open layer: its records become a run of the log.
-pub(crate) fn close<H: Host>(alloc: Global, host: &mut H, layers: &mut Layers) -> Result<(), Fault>
+fn close<H: Host>(alloc: Global, host: &mut H, layers: &mut Layers) -> Result<(), Fault>
     requires live { IsFalse layers.old.log.spent }
     requires few { layers.old.buffer.made ≤ 65536 }
     requires stand { Told (H.state host.old) (Stand (H.state host.old) layers.old) }
@@ -86,6 +109,7 @@ pub(crate) fn close<H: Host>(alloc: Global, host: &mut H, layers: &mut Layers) -
     ensures closes { Closes (H.state host.old) (H.state host.new) layers.old layers.new result }
     ensures full { IsErrOf result Fault.LogFull ↔ (0 < layers.new.log.refused) }
     ensures cause { HasFaultCause (H.state host.old) (H.state host.new) result }
+    ensures reads { (H.state host.new).reads ≡ (H.state host.old).reads }
 {
     // Read here, since no key is there without a record.
     let _ = layers.buffer.made();

@@ -14,7 +14,7 @@ mod lookup;
 mod sources;
 mod view;
 
-pub use layers::Layers;
+pub use layers::{Layers, flush};
 pub use view::View;
 
 #[cfg(test)]

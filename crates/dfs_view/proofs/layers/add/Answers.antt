@@ -1,5 +1,7 @@
-use Rattle.std.proofs.Common.{◌∙◌, arith}
-use Rattle.dfs_view.proofs.Adding.{closed_map, closed_stand, closing_goes_on, on_ok, put_failed, put_goes_on, put_map}
+use Rattle.std.proofs.Common.{◌∙◌, ◌∷◌, [], ap, arith}
+use Rattle.dfs_buffer.specs.Buffer.{Buffered}
+use Rattle.dfs_view.specs.Lists.{add_all}
+use Rattle.dfs_view.proofs.Adding.{closed_map, closed_stand, closes_with_one, closing_works, on_ok, put_failed, put_goes_on, put_map}
 use Rattle.dfs_view.proofs.layers.add.Goals as goal
 
 pub returns-in_default-clause-goes_on : goal.returns-in_default-clause-goes_on
@@ -27,5 +29,8 @@ returns-clause-map g c = λ tells.
 
 pub returns-clause-goes_on : goal.returns-clause-goes_on
 returns-clause-goes_on g c =
-    closing_goes_on (g.H.Host.state c.args.host.now) (g.H.Host.state c.close.new.host) c.args.layers.now c.close.new.layers c.put.new.self c.args.rec c.in-Ok.ensures.ok c.requires.fit.room c.requires.fit.most (omega (arith, c.if-made-layers.false, c.made.ensures.made)) c.in-Ok.ensures.stands
-    c.close.ensures.cause.later c.requires.stand c.close.result c.close.ensures.closes
+    let old = c.args.layers.now in
+    let b = c.put.new.self in
+    closing_works (g.H.Host.state c.args.host.now) (g.H.Host.state c.close.new.host) old c.close.new.layers b 1 (λ l. add_all old.limit l (c.args.rec ∷ [])) (omega (arith, ap (λ (x : Buffered). x.made) c.in-Ok.ensures.ok)) c.close.ensures.cause.later
+    c.requires.stand
+    (closes_with_one (g.H.Host.state c.args.host.now) old b c.args.rec c.requires.fit.room c.requires.fit.most (omega (arith, c.if-made-layers.false, c.made.ensures.made)) c.in-Ok.ensures.stands) c.close.result c.close.ensures.closes

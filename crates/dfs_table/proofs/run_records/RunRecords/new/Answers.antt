@@ -1,5 +1,6 @@
-use Rattle.std.proofs.Common.{sym, ◌∙◌, ap, ◌++◌, arith, length}
+use Rattle.std.proofs.Common.{sym, ◌∙◌, ap, ◌++◌, arith, length, List, []}
 use Rattle.std.specs.Prelude.{option_copied}
+use Rattle.dfs_record.specs.declared.Record.{Record}
 use Rattle.dfs_block.proofs.Spelled.{front_zero}
 use Rattle.dfs_table.specs.RunRecords.{records_in, blocks_left}
 use Rattle.dfs_table.proofs.Few.{rest_few}
@@ -19,9 +20,10 @@ returns-clause-comes c = λ files number each. sym (returns-clause-rest c (files
 pub returns-clause-few : goal.returns-clause-few
 returns-clause-few c =
     let blocks = c.in_ok-blocks.blocks in
+    let coming = records_in (blocks_left blocks.high blocks.tables.now blocks.next blocks.bytes.now) in
     omega (
       arith,
       rest_few c.take-records.result _ _ c.take-records.ensures.taken,
-      ap (λ l. length (l ++ records_in (blocks_left blocks.high blocks.tables.now blocks.next blocks.bytes.now))) (front_zero _),
+      ap (λ (l : List Record). length (l ++ coming)) (front_zero []),
       c.in_ok-blocks.ensures.few,
     )

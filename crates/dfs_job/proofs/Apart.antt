@@ -1,0 +1,71 @@
+-- A job stands as it did where none of its files was written.
+use Rattle.std.proofs.Common.{◌≡◌, ◌≢◌, ℕ, List, [], ◌∷◌, length, take, sym, ap, subst}
+use Rattle.std.specs.Prelude.{IsTrue}
+use Rattle.std.specs.List.{AllByRecursion, AllZip}
+use Rattle.dfs_host.specs.Host.{HostState, Only, bytes_of}
+use Rattle.dfs_record.specs.declared.Record.{Record}
+use Rattle.dfs_record.specs.Delta.{Delta}
+use Rattle.dfs_log.specs.Logs.{LogState, LogStands, log_header}
+use Rattle.dfs_change.specs.declared.change.Change.{Change}
+use Rattle.dfs_table.specs.declared.run.Run.{Run}
+use Rattle.dfs_table.specs.Stored.{IsStored, IsTableOf}
+use Rattle.dfs_table.proofs.Stays.{all_weaker}
+use Rattle.dfs_view.specs.Layers.{AreStored, LiesIn, own_runs, selected}
+use Rattle.dfs_job.specs.declared.job.Job.{Job as LiveJob}
+use Rattle.dfs_job.specs.Job.{Job}
+use Rattle.dfs_job.specs.Stands.{IsSelectable, IsStoredFor, JobStands}
+use Rattle.dfs_job.proofs.Seen.{basis_lies, own_lie, stand_from}
+
+-- every file but this one reads as before
+abbrev pub AgreeBut : ℕ → HostState → HostState → Type 0
+AgreeBut n old new = (m : ℕ) → m ≢ n → bytes_of new m ≡ bytes_of old m
+
+pub agree_but : (n : ℕ) (old new : HostState) → IsTrue old.tells → Only n old new → AgreeBut n old new
+agree_but n old new tells only m other = ap (λ (f : _). f.bytes) ((only.content tells).others m other)
+
+pub lies_apart : (old new : HostState) (m : ℕ) (run : Run) → bytes_of new m ≡ bytes_of old m → LiesIn old m run → LiesIn new m run
+lies_apart old new m run same lies = record { each = subst (λ b. AllByRecursion (IsTableOf b) run.tables) (sym same) lies.each; inside = lies.inside }
+
+pub log_apart : (old new : HostState) (log : LogState) → bytes_of new log.file ≡ bytes_of old log.file → LogStands old log → LogStands new log
+log_apart old new log same stands = record {
+  len = subst (λ (b : List ℕ). length b ≡ log.len) (sym same) stands.len;
+  header_inside = stands.header_inside;
+  header = subst (λ (b : List ℕ). take 12 b ≡ log_header log.file) (sym same) stands.header;
+}
+
+pub selectable_apart : (n : ℕ) (old new : HostState) → AgreeBut n old new → (c : Change) → c.listed.job ≢ n → IsSelectable old c → IsSelectable new c
+selectable_apart n old new agree c other is =
+    let same = agree c.listed.job other in
+    record {
+      changes = is.changes;
+      stored = subst (λ b. IsStored b c.run.value is.changes) (sym same) is.stored;
+      lies = lies_apart old new c.listed.job c.run.value same is.lies;
+      own = is.own;
+    }
+
+pub basis_apart : (n : ℕ) (old new : HostState) → AgreeBut n old new → (cs : List Change) (ds : List Delta) → AllByRecursion (λ (c : Change). c.listed.job ≢ n) cs → AllZip (IsStoredFor old) cs ds → AllZip (IsStoredFor new) cs ds
+basis_apart n old new agree [] [] others zip = tt
+basis_apart n old new agree [] (d ∷ ds) others zip = absurd zip
+basis_apart n old new agree (c ∷ cs) [] others zip = absurd zip
+basis_apart n old new agree (c ∷ cs) (d ∷ ds) others zip =
+    (subst (λ b. IsStored b c.run.value d) (sym (agree c.listed.job others.0)) zip.0, basis_apart n old new agree cs ds others.1 zip.1)
+
+pub basis_still_lies : (n : ℕ) (old new : HostState) → AgreeBut n old new → (cs : List Change) → AllByRecursion (λ (c : Change). c.listed.job ≢ n) cs → AllByRecursion (λ (c : Change). LiesIn old c.listed.job c.run.value) cs
+    → AllByRecursion (λ (c : Change). LiesIn new c.listed.job c.run.value) cs
+basis_still_lies n old new agree [] others lies = tt
+basis_still_lies n old new agree (c ∷ cs) others lies = (lies_apart old new c.listed.job c.run.value (agree c.listed.job others.0) lies.0, basis_still_lies n old new agree cs others.1 lies.1)
+
+pub stands_apart : (n : ℕ) (old new : HostState) → AgreeBut n old new → (live : LiveJob) (j : Job) → ¬ (live.layers.log.file ≡ n) → AllByRecursion (λ (c : Change). c.listed.job ≢ n) (selected live.layers)
+    → JobStands old live j → JobStands new live j
+stands_apart n old new agree live j other others stands =
+    let layers = live.layers in
+    let same = agree layers.log.file other in
+    record {
+      ids = stands.ids;
+      settings = stands.settings;
+      stand = stand_from new layers (log_apart old new layers.log same stands.stand.log) (basis_still_lies n old new agree (selected layers) others (basis_lies old layers stands.stand))
+          (all_weaker (λ (r : Run). LiesIn old layers.log.file r) (λ (r : Run). LiesIn new layers.log.file r) (own_runs layers) (λ r. lies_apart old new layers.log.file r same) (own_lie old layers stands.stand));
+      layers = record { closed = subst (λ b. AreStored b (own_runs layers) j.layers.closed) (sym same) stands.layers.closed; open_ = stands.layers.open_ };
+      basis = basis_apart n old new agree (selected layers) j.basis others stands.basis;
+      fair = stands.fair;
+    }

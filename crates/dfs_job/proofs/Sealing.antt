@@ -1,0 +1,226 @@
+-- Runs that are sealed as one.
+use Rattle.std.proofs.Common.{◌≡◌, ◌∙◌, ◌≤◌, ◌+◌, ◌*◌, ℕ, suc, zero, List, [], ◌∷◌, ◌++◌, length, take, map, refl, sym, ap, subst, arith, append-nil, length-append}
+use Rattle.std.specs.Prelude.{Option, Some, None, IsSomeAnd, Result, Ok, Err, IfOk, flat_map, slice_get, filter}
+use Rattle.std.specs.List.{AllByRecursion, sum_by}
+use Rattle.std.proofs.lemmas.List.{length-map, take_more, take_all}
+use Rattle.std.proofs.lemmas.List.Concat.{length-flat_map}
+use Rattle.std.proofs.lemmas.List.Folds.{flat_map-map}
+use Rattle.std.proofs.lemmas.List.Sums.{sum_by-append, sum_by-cons, sum_by-take-le}
+use Rattle.std.proofs.lemmas.Option.{get_or_from_slice_get, slice_get_within}
+use Rattle.dfs_record.specs.declared.Record.{Record}
+use Rattle.dfs_record.specs.Delta.{Delta, delta, records_of}
+use Rattle.dfs_record.specs.KeyMap.{len}
+use Rattle.dfs_record.proofs.Replays.{delta-records_of}
+use Rattle.dfs_block.specs.Block.{IsBlock}
+use Rattle.dfs_fence.specs.declared.fence.Fence.{Fence}
+use Rattle.dfs_fence.specs.Ranges.{meets}
+use Rattle.dfs_table.specs.declared.run.Run.{Run}
+use Rattle.dfs_table.specs.declared.table.Table.{Table}
+use Rattle.dfs_table.specs.Counts.{count_of}
+use Rattle.dfs_table.specs.Identities.{IsWithin}
+use Rattle.dfs_table.specs.RunRecords.{records_meeting}
+use Rattle.dfs_table.specs.Stored.{IsBlockOf, IsStored, IsTableOf, records_at, records_by, run_records, table_records}
+use Rattle.dfs_table.specs.Tables.{all_fences}
+use Rattle.dfs_table.proofs.Rising.{all_records}
+use Rattle.dfs_registry.specs.declared.listed.Listed.{Listed}
+use Rattle.dfs_change.specs.Identities.{AreFit, FitsJob}
+use Rattle.dfs_change.specs.Meant.{log_meaning}
+use Rattle.dfs_change.specs.Whole.{HasChanges}
+use Rattle.dfs_change.proofs.Fits.{all_within}
+use Rattle.dfs_change.proofs.Meant.{whole_logs_mean}
+use Rattle.dfs_view.specs.Layers.{AreStored, run_count}
+use Rattle.dfs_job.proofs.Layers.{delta_few, delta_fits, deltas_joined}
+
+-- ---- how many records there are
+
+blocks_counted : (file : List ℕ) (fs : List Fence) → AllByRecursion (IsBlockOf file) fs → count_of fs ≡ length (records_by file fs)
+blocks_counted file [] each = refl
+blocks_counted file (f ∷ fs) each =
+    omega (arith, sum_by-cons (λ (g : Fence). g.count) f fs, length-append (records_at file f) (records_by file fs), each.0.count, blocks_counted file fs each.1)
+
+run_counted : (file : List ℕ) (ts : List Table) → AllByRecursion (IsTableOf file) ts → count_of (all_fences ts) ≡ length (run_records file ts)
+run_counted file [] each = refl
+run_counted file (t ∷ ts) each =
+    omega (
+      arith,
+      sum_by-append (λ (g : Fence). g.count) t.fences (all_fences ts),
+      length-append (table_records file t) (run_records file ts),
+      blocks_counted file t.fences each.0.each,
+      run_counted file ts each.1,
+    )
+
+records_few : (d : Delta) → length (records_of d) ≡ len d
+records_few d = length-map {B = Record} d.entries (λ e. record { key = e.0; value = e.1 })
+
+-- a run that is stored for a change set has as many records as that
+pub stored_count : (file : List ℕ) (run : Run) (d : Delta) → IsStored file run d → run_count run ≡ len d
+stored_count file run d stored = run_counted file run.tables stored.each ∙ ap length stored.records ∙ records_few d
+
+pub all_counted : (file : List ℕ) (rs : List Run) (ls : List (List Record)) → AreStored file rs ls → sum_by run_count rs ≡ sum_by (λ (l : List Record). len (delta l)) ls
+all_counted file [] [] stored = refl
+all_counted file [] (l ∷ ls) stored = absurd stored
+all_counted file (r ∷ rs) [] stored = absurd stored
+all_counted file (r ∷ rs) (l ∷ ls) stored =
+    omega (arith, sum_by-cons run_count r rs, sum_by-cons (λ (x : List Record). len (delta x)) l ls, stored_count file r (delta l) stored.0, all_counted file rs ls stored.1)
+
+pub stored_lengths : (file : List ℕ) (rs : List Run) (ls : List (List Record)) → AreStored file rs ls → length rs ≡ length ls
+stored_lengths file [] [] stored = refl
+stored_lengths file [] (l ∷ ls) stored = absurd stored
+stored_lengths file (r ∷ rs) [] stored = absurd stored
+stored_lengths file (r ∷ rs) (l ∷ ls) stored = omega (arith, stored_lengths file rs ls stored.1)
+
+-- no table is without a record
+table_some : (file : List ℕ) (fs : List Fence) → 1 ≤ length fs → AllByRecursion (IsBlockOf file) fs → 1 ≤ length (records_by file fs)
+table_some file [] some each = some
+table_some file (f ∷ fs) some each = omega (arith, length-append (records_at file f) (records_by file fs), each.0.block.some)
+
+pub tables_few : (file : List ℕ) (ts : List Table) → AllByRecursion (IsTableOf file) ts → length ts ≤ length (run_records file ts)
+tables_few file [] each = omega arith
+tables_few file (t ∷ ts) each =
+    omega (arith, length-append (table_records file t) (run_records file ts), table_some file t.fences each.0.index.index.some each.0.each, tables_few file ts each.1)
+
+-- ---- the records of all runs
+
+all_meet : (fs : List Fence) → filter (meets None None) fs ≡ fs
+all_meet [] = refl
+all_meet (f ∷ fs) = ap (λ l. f ∷ l) (all_meet fs)
+
+whole_run : (file : List ℕ) (ts : List Table) → records_meeting None None file ts ≡ run_records file ts
+whole_run file ts = ap (records_by file) (all_meet (all_fences ts)) ∙ sym (all_records file ts)
+
+pub run_rest : (file : List ℕ) (r : Run) (l : List Record) → IsStored file r (delta l) → records_meeting None None file r.tables ≡ records_of (delta l)
+run_rest file r l stored = whole_run file r.tables ∙ stored.records
+
+-- the layer that a run is stored for
+pub record IsLayerAt (file : List ℕ) (r : Run) (ls : List (List Record)) (i : ℕ) : Type 0 where
+  pub layer : List Record
+  pub at : slice_get ls i ≡ Some layer
+  pub stored : IsStored file r (delta layer)
+
+pub layer_at : (file : List ℕ) (rs : List Run) (ls : List (List Record)) (i : ℕ) (r : Run) → AreStored file rs ls → slice_get rs i ≡ Some r → IsLayerAt file r ls i
+layer_at file [] [] i r stored at = absurd cc
+layer_at file [] (l ∷ ls) i r stored at = absurd stored
+layer_at file (s ∷ rs) [] i r stored at = absurd stored
+layer_at file (s ∷ rs) (l ∷ ls) zero r stored at = record { layer = l; at = refl; stored = subst (λ x. IsStored file x (delta l)) (cc at) stored.0 }
+layer_at file (s ∷ rs) (l ∷ ls) (suc i) r stored at = let behind = layer_at file rs ls i r stored.1 at in record { layer = behind.layer; at = behind.at; stored = behind.stored }
+
+take_next : {X : Type 0} (xs : List X) (k : ℕ) (x : X) → slice_get xs k ≡ Some x → take (k + 1) xs ≡ take k xs ++ x ∷ []
+take_next xs k x at = take_more xs k x (slice_get_within xs k x at) ∙ ap (λ y. take k xs ++ y ∷ []) (get_or_from_slice_get xs k x x at)
+
+map_more : {A B : Type 0} (f : A → B) (xs : List A) (x : A) → map f (xs ++ x ∷ []) ≡ map f xs ++ f x ∷ []
+map_more f [] x = refl
+map_more f (y ∷ ys) x = ap (λ l. f y ∷ l) (map_more f ys x)
+
+-- one source more, of the next run
+pub rests_next : {S : Type 0} (rest : S → List Record) (file : List ℕ) (rs : List Run) (ls : List (List Record)) (i : ℕ) (r : Run) (old new : List S) (s : S) → AreStored file rs ls → slice_get rs i ≡ Some r
+    → new ≡ old ++ s ∷ [] → map rest old ≡ map (λ (l : List Record). records_of (delta l)) (take i ls) → (AllByRecursion (IsTableOf file) r.tables → rest s ≡ records_meeting None None file r.tables)
+    → map rest new ≡ map (λ (l : List Record). records_of (delta l)) (take (i + 1) ls)
+rests_next rest file rs ls i r old new s stored at is before here =
+    let of = layer_at file rs ls i r stored at in
+    ap (map rest) is
+    ∙ map_more rest old s
+    ∙ (λ k. before k ++ (here of.stored.each ∙ run_rest file r of.layer of.stored) k ∷ [])
+    ∙ sym (ap (map (λ (l : List Record). records_of (delta l))) (take_next ls i of.layer of.at) ∙ map_more (λ (l : List Record). records_of (delta l)) (take i ls) of.layer)
+
+pub few_next : {S : Type 0} (rest : S → List Record) (rs : List Run) (i : ℕ) (r : Run) (old new : List S) (s : S) → slice_get rs i ≡ Some r → new ≡ old ++ s ∷ []
+    → sum_by (λ s. length (rest s)) old ≤ sum_by run_count (take i rs) → length (rest s) ≤ run_count r → sum_by (λ s. length (rest s)) new ≤ sum_by run_count (take (i + 1) rs)
+few_next rest rs i r old new s at is before here =
+    omega (
+      arith,
+      ap (λ l. sum_by (λ s. length (rest s)) l) is,
+      sum_by-append (λ s. length (rest s)) old (s ∷ []),
+      sum_by-cons (λ s. length (rest s)) s [],
+      ap (λ l. sum_by run_count l) (take_next rs i r at),
+      sum_by-append run_count (take i rs) (r ∷ []),
+      sum_by-cons run_count r [],
+      before,
+      here,
+    )
+
+pub rests_end : {S : Type 0} (rest : S → List Record) (file : List ℕ) (rs : List Run) (ls : List (List Record)) (i : ℕ) (ss : List S) → AreStored file rs ls → length rs ≤ i
+    → map rest ss ≡ map (λ (l : List Record). records_of (delta l)) (take i ls) → map rest ss ≡ map (λ (l : List Record). records_of (delta l)) ls
+rests_end rest file rs ls i ss stored all rests = rests ∙ ap (map (λ (l : List Record). records_of (delta l))) (take_all i ls (omega (arith, all, stored_lengths file rs ls stored)))
+
+some_is : {X : Type 0} (o : Option X) (P : X → Type 0) → IsSomeAnd o P → (x : X) × (o ≡ Some x) × P x
+some_is None P is = absurd is
+some_is (Some x) P is = (x, refl, is)
+
+pub run_is : (rs : List Run) (i : ℕ) (run : Run) → IsSomeAnd (slice_get rs i) (λ r. r ≡ run) → slice_get rs i ≡ Some run
+run_is rs i run is = let of = some_is (slice_get rs i) (λ r. r ≡ run) is in of.1 ∙ ap Some of.2
+
+pub run_in : {xs : List Run} (rs : List Run) (i : ℕ) (run : Run) → xs ≡ rs → IsSomeAnd (slice_get xs i) (λ r. r ≡ run) → slice_get rs i ≡ Some run
+run_in {xs} rs i run same is = subst (λ ys. slice_get ys i ≡ Some run) same (run_is xs i run is)
+
+pub all_at : {X : Type 0} (P : X → Type 0) (xs : List X) (i : ℕ) (x : X) → AllByRecursion P xs → slice_get xs i ≡ Some x → P x
+all_at P [] i x all at = absurd cc
+all_at P (y ∷ ys) zero x all at = subst P (cc at) all.0
+all_at P (y ∷ ys) (suc i) x all at = all_at P ys i x all.1 at
+
+pub loaded : {S : Type 0} (ss : List S) → AllByRecursion (λ (s : S). ◌≡◌ {A = ℕ} 0 0) ss
+loaded [] = tt
+loaded (s ∷ ss) = (refl, loaded ss)
+
+pub ok_then : {T E : Type 0} (result : Result T E) (P Q : T → Type 0) → IfOk result P → ((x : T) → P x → Q x) → IfOk result Q
+ok_then (Ok x) P Q p f = f x p
+ok_then (Err e) P Q p f = tt
+
+-- the sum up to a run, and that run's count
+pub count_next : (rs : List Run) (i : ℕ) (r : Run) → slice_get rs i ≡ Some r → sum_by run_count (take (i + 1) rs) ≡ sum_by run_count (take i rs) + run_count r
+count_next rs i r at = omega (arith, ap (λ l. sum_by run_count l) (take_next rs i r at), sum_by-append run_count (take i rs) (r ∷ []), sum_by-cons run_count r [])
+
+pub count_most : (rs : List Run) (i : ℕ) → sum_by run_count (take i rs) ≤ sum_by run_count rs
+count_most rs i = sum_by-take-le run_count rs i
+
+-- ---- merged
+
+pub merged_all : {S : Type 0} (rest : S → List Record) (ss : List S) (ls : List (List Record)) → map rest ss ≡ map (λ (l : List Record). records_of (delta l)) ls
+    → records_of (delta (flat_map (λ (rs : List Record). rs) (map rest ss))) ≡ records_of (delta (flat_map (λ (rs : List Record). rs) ls))
+merged_all rest ss ls rests =
+    ap (λ x. records_of (delta (flat_map (λ (rs : List Record). rs) x))) rests
+    ∙ ap (λ x. records_of (delta x)) (flat_map-map (λ (rs : List Record). rs) (λ (l : List Record). records_of (delta l)) ls)
+    ∙ ap records_of (deltas_joined ls)
+
+pub merged_few : {S : Type 0} (rest : S → List Record) (ss : List S) → length (records_of (delta (flat_map (λ (rs : List Record). rs) (map rest ss)))) ≤ sum_by (λ s. length (rest s)) ss
+merged_few rest ss =
+    let all = flat_map (λ (rs : List Record). rs) (map rest ss) in
+    omega (
+      arith,
+      records_few (delta all),
+      delta_few all,
+      ap length (flat_map-map (λ (rs : List Record). rs) rest ss),
+      length-flat_map rest ss,
+    )
+
+-- ---- what is sealed
+
+-- the identities of a run that is stored for a change set of the job
+pub sealed_within : (job : ℕ) (file : List ℕ) (run : Run) (d : Delta) → IsStored file run d → AreFit job d → AllByRecursion (IsWithin job) (run_records file run.tables)
+sealed_within job file run d stored fit = subst (AllByRecursion (IsWithin job)) (sym stored.records) (all_within job (records_of d) fit)
+
+pub sealed_means : (file after : List ℕ) (run : Run) (d : Delta) (l : Listed) → IsStored file run d → HasChanges after l (delta (run_records file run.tables)) → log_meaning after l ≡ Some d
+sealed_means file after run d l stored changes =
+    (whole_logs_mean after l (delta (run_records file run.tables))).1 changes ∙ ap Some (ap delta stored.records ∙ delta-records_of d)
+
+only_run : (rs : List Run) (r : Run) → length rs ≡ 1 → slice_get rs 0 ≡ Some r → rs ≡ r ∷ []
+only_run [] r one at = absurd (omega (arith, one))
+only_run (x ∷ []) r one at = ap (λ y. y ∷ []) (cc at)
+only_run (x ∷ y ∷ rs) r one at = absurd (omega (arith, one))
+
+one_layer : (file : List ℕ) (r : Run) (ls : List (List Record)) → AreStored file (r ∷ []) ls → IsStored file r (delta (flat_map (λ (rs : List Record). rs) ls))
+one_layer file r [] stored = absurd stored
+one_layer file r (l ∷ []) stored = subst (λ x. IsStored file r (delta x)) (sym (append-nil l)) stored.0
+one_layer file r (l ∷ m ∷ ls) stored = absurd stored.1
+
+-- the only run is stored for the only layer
+pub only_stored : (file : List ℕ) (rs : List Run) (r : Run) (ls : List (List Record)) → length rs ≡ 1 → slice_get rs 0 ≡ Some r → AreStored file rs ls → IsStored file r (delta (flat_map (λ (x : List Record). x) ls))
+only_stored file rs r ls one at stored = one_layer file r ls (subst (λ x. AreStored file x ls) (only_run rs r one at) stored)
+
+pub only_count : (rs : List Run) (r : Run) → length rs ≡ 1 → slice_get rs 0 ≡ Some r → sum_by run_count rs ≡ run_count r
+only_count rs r one at = omega (arith, ap (λ x. sum_by run_count x) (only_run rs r one at), sum_by-cons run_count r [])
+
+pub joined_fit : (job : ℕ) (ls : List (List Record)) → AllByRecursion (FitsJob job) (flat_map (λ (rs : List Record). rs) ls) → AreFit job (delta (flat_map (λ (rs : List Record). rs) ls))
+joined_fit job ls all = delta_fits job (flat_map (λ (rs : List Record). rs) ls) all
+
+-- how many bytes the manifest costs
+pub manifest_cost : (file : List ℕ) (run : Run) → AllByRecursion (IsTableOf file) run.tables → length run.tables ≤ run_count run
+manifest_cost file run each = omega (arith, tables_few file run.tables each, run_counted file run.tables each)

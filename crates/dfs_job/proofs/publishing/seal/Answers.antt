@@ -1,0 +1,70 @@
+use Rattle.std.proofs.Common.{List, ◌∙◌, ◌≡◌, ap, arith, sym, subst, length, map}
+use Rattle.std.proofs.lemmas.List.{length-map}
+use Rattle.dfs_host.specs.Host.{Only, bytes_of}
+use Rattle.dfs_host.proofs.Moments.{only_goes_on}
+use Rattle.dfs_record.specs.Delta.{delta}
+use Rattle.dfs_record.specs.declared.Record.{Record}
+use Rattle.std.specs.Prelude.{flat_map, slice_get, Some}
+use Rattle.dfs_change.specs.Identities.{AreFit}
+use Rattle.dfs_table.specs.Stored.{IsStored}
+use Rattle.dfs_view.specs.Layers.{AreStored, own_runs}
+use Rattle.dfs_job.proofs.Sealing.{joined_fit, only_count, only_stored, run_in}
+use Rattle.dfs_job.proofs.publishing.seal.Goals as goal
+
+pub finish-requires-clause-of_job : goal.finish-requires-clause-of_job
+finish-requires-clause-of_job g c = λ tells.
+    let layers = c.args.layers.now in
+    let rs = own_runs layers in
+    let run = c.run_at.result.now in
+    let at = run_in rs 0 run (ap (map (λ r. r.value)) c.deref.ensures.value) c.run_at.ensures in
+    let one : length rs ≡ 1 = omega (arith, c.if-len-eq1.true, c.len.ensures, length-map layers.runs.items (λ r. r.value)) in
+    let of = c.requires.sealable tells in
+    record {
+      changes = delta (flat_map (λ (x : List Record). x) of.layers);
+      stored = only_stored (bytes_of (g.H.Host.state c.args.host.now) layers.log.file) rs run of.layers one at of.are.stored;
+      own = joined_fit layers.log.file of.layers of.are.own;
+    }
+
+pub returns-then-len-eq1-clause-changes : goal.returns-then-len-eq1-clause-changes
+returns-then-len-eq1-clause-changes g c = λ ls tells are.
+    let layers = c.args.layers.now in
+    let rs = own_runs layers in
+    let run = c.run_at.result.now in
+    let at = run_in rs 0 run (ap (map (λ r. r.value)) c.deref.ensures.value) c.run_at.ensures in
+    let one : length rs ≡ 1 = omega (arith, c.if-len-eq1.true, c.len.ensures, length-map layers.runs.items (λ r. r.value)) in
+    c.finish.ensures.changes (delta (flat_map (λ (x : List Record). x) ls)) tells (only_stored (bytes_of (g.H.Host.state c.args.host.now) layers.log.file) rs run ls one at are.stored)
+
+pub returns-then-len-eq1-clause-count : goal.returns-then-len-eq1-clause-count
+returns-then-len-eq1-clause-count g c = λ ls tells are.
+    let layers = c.args.layers.now in
+    let rs = own_runs layers in
+    let run = c.run_at.result.now in
+    let at = run_in rs 0 run (ap (map (λ r. r.value)) c.deref.ensures.value) c.run_at.ensures in
+    let one : length rs ≡ 1 = omega (arith, c.if-len-eq1.true, c.len.ensures, length-map layers.runs.items (λ r. r.value)) in
+    c.finish.ensures.count (delta (flat_map (λ (x : List Record). x) ls)) tells (only_stored (bytes_of (g.H.Host.state c.args.host.now) layers.log.file) rs run ls one at are.stored)
+
+pub returns-then-len-eq1-clause-growth : goal.returns-then-len-eq1-clause-growth
+returns-then-len-eq1-clause-growth g c = λ tells.
+    let layers = c.args.layers.now in
+    let rs = own_runs layers in
+    let run = c.run_at.result.now in
+    let at = run_in rs 0 run (ap (map (λ r. r.value)) c.deref.ensures.value) c.run_at.ensures in
+    let one : length rs ≡ 1 = omega (arith, c.if-len-eq1.true, c.len.ensures, length-map layers.runs.items (λ r. r.value)) in
+    omega (arith, c.finish.ensures.growth tells, only_count rs run one at)
+
+pub finish-requires-2-clause-of_job : goal.finish-requires-2-clause-of_job
+finish-requires-2-clause-of_job g c = λ tells.
+    let told = sym c.in_ok-run.ensures.cause.tells ∙ tells in
+    let of = c.requires.sealable told in
+    let layers = c.args.layers.now in
+    let file : c.merge_runs.new.log.file ≡ layers.log.file = c.in_ok-run.ensures.same.0 in
+    let stored = c.in_ok-run.ensures.stored of.layers told (subst (λ xs. AreStored (bytes_of (g.H.Host.state c.args.host.now) layers.log.file) (map (λ r. r.value) xs) of.layers) (sym c.deref-2.ensures.value) of.are.stored) in
+    record {
+      changes = delta (flat_map (λ (x : List Record). x) of.layers);
+      stored = subst (λ n. IsStored (bytes_of (g.H.Host.state c.merge_runs.new.host) n) c.in_ok-run.run' (delta (flat_map (λ (x : List Record). x) of.layers))) (sym file) stored;
+      own = subst (λ n. AreFit n (delta (flat_map (λ (x : List Record). x) of.layers))) (sym file) (joined_fit layers.log.file of.layers of.are.own);
+    }
+
+pub returns-clause-only : goal.returns-clause-only
+returns-clause-only g c =
+    only_goes_on c.in_ok-run.ensures.only (subst (λ n. Only n (g.H.Host.state c.merge_runs.new.host) (g.H.Host.state c.finish-2.new.host)) c.in_ok-run.ensures.same.0 c.finish-2.ensures.only)

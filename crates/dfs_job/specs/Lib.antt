@@ -1,0 +1,4 @@
+pub mod Job
+pub mod Stands
+pub mod Applied
+pub mod Sealed

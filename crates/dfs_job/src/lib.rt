@@ -1,0 +1,15 @@
+//! A live job: its numbers, its layers and its log.
+//!
+//! `Job::begin` starts a job over the change sets that it selects, `op` and `flush` put its records into layers of its log, `stats`
+//! counts the closed ones, and `publish_tables` seals all of them as one run. Each call is a step of the plain job of `specs/Job`,
+//! which is its numbers, the change sets and the records in layers; `specs/Stands` says when a job stands for a plain one on a host
+//! and what is so of every job.
+#![tactic(auto)]
+
+mod applying;
+mod job;
+mod publishing;
+mod settings;
+
+pub use job::{Job, Stats};
+pub use settings::Settings;

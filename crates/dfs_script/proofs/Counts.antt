@@ -1,7 +1,7 @@
 -- Commands with another number of words than theirs ask for nothing.
 use Rattle.std.proofs.Common.{◌≡◌, ℕ, List, [], ◌∷◌, length, refl}
 use Rattle.std.specs.Prelude.{None}
-use Rattle.dfs_script.specs.Line.{mkdir_of, create_of, setattr_of, rename_of, one_path}
+use Rattle.dfs_script.specs.Line.{mkdir_of, create_of, setattr_of, rename_of, one_path, set_of}
 
 pub no_mkdir : (ws : List (List ℕ)) → ¬ (length ws ≡ 3) → mkdir_of ws ≡ None
 no_mkdir [] h = refl
@@ -36,3 +36,9 @@ no_create (p ∷ m ∷ t ∷ []) h = refl
 no_create (p ∷ m ∷ t ∷ s ∷ []) h = refl
 no_create (p ∷ m ∷ t ∷ s ∷ r ∷ []) h = absurd (h refl)
 no_create (p ∷ m ∷ t ∷ s ∷ r ∷ w ∷ ws) h = refl
+
+pub no_set : (ws : List (List ℕ)) → ¬ (length ws ≡ 2) → set_of ws ≡ None
+no_set [] h = refl
+no_set (s ∷ []) h = refl
+no_set (s ∷ n ∷ []) h = absurd (h refl)
+no_set (s ∷ n ∷ w ∷ ws) h = refl

@@ -1,6 +1,6 @@
 -- A line means one thing, and its meaning is what is read.
 use Rattle.std.proofs.Common.{◌≡◌, ◌≤◌, ◌<◌, ℕ, Bool, true, false, cond, List, length, refl, sym, ap, subst, ◌∙◌, inl, inr, arith}
-use Rattle.std.specs.Prelude.{◌⊎◌, nat_lt, Option, Some, None, ok_or, Result, Ok, Err}
+use Rattle.std.specs.Prelude.{nat_lt, Option, Some, None, ok_or, Result, Ok, Err}
 use Rattle.std.proofs.lemmas.Bool.{ltb-true, ltb-false}
 use mathlib.Core.Bool.{true≢false}
 use Rattle.dfs_record.specs.Pieces.{words}
@@ -8,7 +8,6 @@ use Rattle.dfs_script.specs.declared.Line.{Line}
 use Rattle.dfs_script.specs.declared.Line.TheVariants.{Nothing}
 use Rattle.dfs_script.specs.declared.LineFault.{LineFault}
 use Rattle.dfs_script.specs.declared.LineFault.TheVariants.{Long, Syntax, NoMemory}
-use Rattle.dfs_script.specs.Grammar.{IsForm}
 use Rattle.dfs_script.specs.Line.{without_cr, is_comment, is_printable, line_of, said_in_words, said_by, meaning}
 use Rattle.dfs_script.specs.Means.{Says, TextMeans, Means, MeansOne}
 use Rattle.dfs_script.specs.Read.{IsMeaning, AnswersAll, IsAnswer}

@@ -1,15 +1,20 @@
--- Which commands are valid: their words, names, paths, modes, references and numbers are.
+-- Which commands are valid: their words, names, paths, modes, references and numbers are, and what they set is in its range.
+use Rattle.std.specs.Prelude.{IsTrue}
 use Rattle.dfs_record.specs.Name.{IsSnapName}
 use Rattle.dfs_path.specs.Op.{IsOp}
 use Rattle.dfs_script.specs.declared.Line.{Line}
-use Rattle.dfs_script.specs.declared.Line.TheVariants.{Nothing, Snapshots, Begin, Space, Publish, End}
+use Rattle.dfs_script.specs.declared.Line.TheVariants.{Nothing, Set, Snapshots, Begin, Space, Flush, Stats, Publish, End}
 use Rattle.dfs_script.specs.Names.{IsNames}
+use Rattle.dfs_script.specs.Settings.{is_in_range}
 use Rattle.dfs_script.specs.Word.{IsJobWord}
 
 abbrev pub IsLine : Line → Type 0
 IsLine Nothing = Unit {0}
+IsLine (Set what value) = IsTrue (is_in_range what value)
 IsLine Snapshots = Unit {0}
 IsLine (Begin job names) = IsJobWord job × IsNames names
 IsLine (Space job op) = IsJobWord job × IsOp op
+IsLine (Flush job) = IsJobWord job
+IsLine (Stats job) = IsJobWord job
 IsLine (Publish job name) = IsJobWord job × IsSnapName name
 IsLine (End job) = IsJobWord job

@@ -2,7 +2,7 @@ use super::*;
 use dfs_path::Op;
 use std::test::*;
 
-const SAID: [&[u8]; 14] = [
+const SAID: [&[u8]; 16] = [
     b"snapshots",
     b"  snapshots  ",
     b"snapshots\r",
@@ -17,16 +17,59 @@ const SAID: [&[u8]; 14] = [
     b"a stat /~",
     b"mkdir list /",
     b"begins drop",
+    b"a flush",
+    b"a stats",
+];
+
+// Lines that set a value, with the setting and the value.
+const SETTINGS: [(&[u8], Setting, u64); 9] = [
+    (b"set buffer 1", Setting::Buffer, 1),
+    (b"set buffer 65536", Setting::Buffer, 65536),
+    (b" set  cache 1\r", Setting::Cache, 1),
+    (b"set cache 00000000000000065536", Setting::Cache, 65536),
+    (b"set parts 1", Setting::Parts, 1),
+    (b"set parts 0256", Setting::Parts, 256),
+    (b"set logbytes 4096", Setting::LogBytes, 4096),
+    (
+        b"set logbytes 1099511627775",
+        Setting::LogBytes,
+        1099511627775,
+    ),
+    (
+        b"set logbytes 1099511627776",
+        Setting::LogBytes,
+        1099511627776,
+    ),
 ];
 
 const SILENT: [&[u8]; 6] = [b"", b"\r", b"   ", b"#", b"# set\tbuffer \xff", b"#\r\r"];
 
-const FAULTS: [&[u8]; 33] = [
+const FAULTS: [&[u8]; 61] = [
     b"\r\r",
     b"snapshots\r\r",
     b"snapshots now",
     b"snap\tshots",
     b" # x",
+    b"set",
+    b"set buffer",
+    b"set 1",
+    b"set buffer 1 1",
+    b"set foo 1",
+    b"set Buffer 1",
+    b"set buffer -1",
+    b"set buffer x",
+    b"set buffer 000000000000000000001",
+    b"set buffer 0",
+    b"set buffer 65537",
+    b"set cache 0",
+    b"set cache 65537",
+    b"set parts 0",
+    b"set parts 257",
+    b"set parts 65536",
+    b"set logbytes 0",
+    b"set logbytes 4095",
+    b"set logbytes 1099511627777",
+    b"set logbytes 18446744073709551616",
     b"begin",
     b"begin set",
     b"begin snapshots",
@@ -39,6 +82,14 @@ const FAULTS: [&[u8]; 33] = [
     b"begin aaaaaaaaaaaaaaaaaaaaaaaaaaaaaaaaa",
     b"a",
     b"a drop now",
+    b"a flush now",
+    b"a stats 1",
+    b"set flush",
+    b"set stats",
+    b"flush",
+    b"stats",
+    b"a plan own",
+    b"a part 0",
     b"a publish",
     b"a mkdir / 0",
     b"a mkdir / 0 0 0",
@@ -63,11 +114,30 @@ fn each_command(rt: HostRuntime) {
         assert!(rt;
             matches!(
                 read_line(rt.alloc(), line),
-                Ok(Line::Snapshots | Line::Begin { .. } | Line::Space { .. } | Line::End { .. })
+                Ok(
+                    Line::Snapshots
+                        | Line::Begin { .. }
+                        | Line::Space { .. }
+                        | Line::Flush { .. }
+                        | Line::Stats { .. }
+                        | Line::End { .. }
+                )
             ),
             "{line:?}"
         );
     }
+}
+
+#[test]
+fn the_ranges_of_settings(rt: HostRuntime) -> Result<(), Fail> {
+    for (line, setting, number) in SETTINGS {
+        let Ok(Line::Set { what, value }) = read_line(rt.alloc(), line) else {
+            return Err("a setting")?;
+        };
+        assert_eq!(rt; what, setting, "{line:?}");
+        assert_eq!(rt; value, number, "{line:?}");
+    }
+    Ok(())
 }
 
 #[test]

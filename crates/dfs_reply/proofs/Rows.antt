@@ -5,7 +5,7 @@ use Rattle.dfs_record.specs.declared.Entry.TheVariants.{Dir, File}
 use Rattle.dfs_record.specs.Key.{root}
 use Rattle.dfs_reply.specs.Text.{text}
 use Rattle.dfs_reply.specs.declared.Word.TheVariants.{Syntax, Long, LiveJob, NoJob, Full, NoSnap, Taken, Root, NoEnt, NotDir, IsDir, Exists, NotEmpty, Inside}
-use Rattle.dfs_reply.specs.declared.Reply.TheVariants.{Nothing, Ok, Job, Stat, Listing, Snapshots, Published, Damaged, Error}
+use Rattle.dfs_reply.specs.declared.Reply.TheVariants.{Nothing, Ok, Job, Stat, Listing, Snapshots, Stats, Published, Damaged, Error}
 
 pub nothing : text Nothing ≡ []
 nothing = refl
@@ -50,6 +50,10 @@ no_entry = refl
 pub snapshots : text (Snapshots ((codes "s1", 1) ∷ (codes "s2", 2) ∷ [])) ≡ codes "ok 2\ns1 1\ns2 2\n"
 unfolding digits
 snapshots = refl
+
+pub stats : text (Stats 5 12) ≡ codes "ok runs 5 records 12\n"
+unfolding digits
+stats = refl
 
 pub published : text (Published (codes "raw") 2003) ≡ codes "ok published raw 2003\n"
 unfolding digits

@@ -9,7 +9,7 @@ use Rattle.dfs_path.specs.Escape.{escaped}
 use Rattle.dfs_reply.specs.declared.Word.{Word}
 use Rattle.dfs_reply.specs.declared.Word.TheVariants.{Syntax, Long, LiveJob, NoJob, Full, NoSnap, Taken, Root, NoEnt, NotDir, IsDir, Exists, NotEmpty, Inside}
 use Rattle.dfs_reply.specs.declared.Reply.{Reply}
-use Rattle.dfs_reply.specs.declared.Reply.TheVariants.{Nothing, Ok, Job, Stat, Listing, Snapshots, Published, Damaged, Error}
+use Rattle.dfs_reply.specs.declared.Reply.TheVariants.{Nothing, Ok, Job, Stat, Listing, Snapshots, Stats, Published, Damaged, Error}
 
 -- words with a space between each two, and LF at the end
 abbrev pub line : List (List ℕ) → List ℕ
@@ -54,6 +54,7 @@ text (Job number) = line (codes "ok" ∷ codes "job" ∷ decimal number ∷ [])
 text (Stat entry) = line (codes "ok" ∷ entry_words entry)
 text (Listing entries) = line (codes "ok" ∷ decimal (length entries) ∷ []) ++ flat_map listing_line entries
 text (Snapshots snapshots) = line (codes "ok" ∷ decimal (length snapshots) ∷ []) ++ flat_map snapshot_line snapshots
+text (Stats runs records) = line (codes "ok" ∷ codes "runs" ∷ decimal runs ∷ codes "records" ∷ decimal records ∷ [])
 text (Published name count) = line (codes "ok" ∷ codes "published" ∷ name ∷ decimal count ∷ [])
 text (Damaged name) = line (codes "error" ∷ codes "damaged" ∷ name ∷ [])
 text (Error word) = line (codes "error" ∷ word_text word ∷ [])

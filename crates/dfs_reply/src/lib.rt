@@ -108,6 +108,8 @@ pub enum Reply {
     Stat(Entry),
     Listing(Listing),
     Snapshots(SnapList),
+    /// A job has so many runs, and so many records in them.
+    Stats { runs: u64, records: u64 },
     /// A snapshot of this name was published, with this count of records.
     Published { name: SnapName, count: u64 },
     /// The log of this snapshot is damaged.

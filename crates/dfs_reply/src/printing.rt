@@ -16,6 +16,10 @@ const ERROR: &[u8] = b"error";
 
 const JOB: &[u8] = b"job";
 
+const RUNS: &[u8] = b"runs";
+
+const RECORDS: &[u8] = b"records";
+
 const PUBLISHED: &[u8] = b"published";
 
 const DAMAGED: &[u8] = b"damaged";
@@ -69,6 +73,16 @@ fn write_reply(reply: &Reply, out: &mut Vec<u8>) -> Result<(), NoMemory>
         Reply::Stat(entry) => write_entry(Piece::Text(OK), entry, out),
         Reply::Listing(listing) => write_listing(listing, out),
         Reply::Snapshots(snapshots) => write_snapshots(snapshots, out),
+        Reply::Stats { runs, records } => write_line(
+            Piece::Text(OK),
+            &[
+                Piece::Text(RUNS),
+                Piece::Number(*runs),
+                Piece::Text(RECORDS),
+                Piece::Number(*records),
+            ],
+            out,
+        ),
         Reply::Published { name, count } => write_line(
             Piece::Text(OK),
             &[

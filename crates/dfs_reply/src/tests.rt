@@ -72,6 +72,24 @@ fn replies_have_their_texts(rt: HostRuntime) -> Result<(), Fail> {
         b"ok 2\nA file 0644 1 1 %25\n%FF file 0644 2 2 r\n",
     )?;
     shows(&rt, alloc, snapshots(alloc)?, b"ok 2\ns1 1\ns2 2\n")?;
+    shows(
+        &rt,
+        alloc,
+        Reply::Stats {
+            runs: 5,
+            records: 12,
+        },
+        b"ok runs 5 records 12\n",
+    )?;
+    shows(
+        &rt,
+        alloc,
+        Reply::Stats {
+            runs: 0,
+            records: u64::MAX,
+        },
+        b"ok runs 0 records 18446744073709551615\n",
+    )?;
     shows(&rt, alloc, published(alloc)?, b"ok published raw 2003\n")?;
     shows(
         &rt,

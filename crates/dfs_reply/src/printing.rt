@@ -73,16 +73,7 @@ fn write_reply(reply: &Reply, out: &mut Vec<u8>) -> Result<(), NoMemory>
         Reply::Stat(entry) => write_entry(Piece::Text(OK), entry, out),
         Reply::Listing(listing) => write_listing(listing, out),
         Reply::Snapshots(snapshots) => write_snapshots(snapshots, out),
-        Reply::Stats { runs, records } => write_line(
-            Piece::Text(OK),
-            &[
-                Piece::Text(RUNS),
-                Piece::Number(*runs),
-                Piece::Text(RECORDS),
-                Piece::Number(*records),
-            ],
-            out,
-        ),
+        Reply::Stats { runs, records } => write_stats(*runs, *records, out),
         Reply::Published { name, count } => write_line(
             Piece::Text(OK),
             &[
@@ -120,6 +111,22 @@ fn spelling(word: Word) -> &'static [u8]
         Word::NotEmpty => b"notempty",
         Word::Inside => b"inside",
     }
+}
+
+fn write_stats(runs: u64, records: u64, out: &mut Vec<u8>) -> Result<(), NoMemory>
+    ensures ok { OnOk result (out.new.items ≡ out.old.items ++ text (Reply.Stats runs records)) }
+    ensures err { OnErr result (Keeps out.old.items out.new.items) }
+{
+    write_line(
+        Piece::Text(OK),
+        &[
+            Piece::Text(RUNS),
+            Piece::Number(runs),
+            Piece::Text(RECORDS),
+            Piece::Number(records),
+        ],
+        out,
+    )
 }
 
 // The count of the entries, and a line for each.

@@ -13,7 +13,7 @@ use Rattle.dfs_table.proofs.Stays.{all_weaker}
 use Rattle.dfs_view.specs.Layers.{AreStored, LiesIn, own_runs, selected}
 use Rattle.dfs_job.specs.declared.job.Job.{Job as LiveJob}
 use Rattle.dfs_job.specs.Job.{Job}
-use Rattle.dfs_job.specs.Stands.{IsSelectable, IsStoredFor, JobStands}
+use Rattle.dfs_job.specs.Stands.{IsStoredFor, JobStands}
 use Rattle.dfs_job.proofs.Seen.{basis_lies, own_lie, stand_from}
 
 -- every file but this one reads as before
@@ -33,39 +33,42 @@ log_apart old new log same stands = record {
   header = subst (λ (b : List ℕ). take 12 b ≡ log_header log.file) (sym same) stands.header;
 }
 
-pub selectable_apart : (n : ℕ) (old new : HostState) → AgreeBut n old new → (c : Change) → c.listed.job ≢ n → IsSelectable old c → IsSelectable new c
-selectable_apart n old new agree c other is =
-    let same = agree c.listed.job other in
-    record {
-      changes = is.changes;
-      stored = subst (λ b. IsStored b c.run.value is.changes) (sym same) is.stored;
-      lies = lies_apart old new c.listed.job c.run.value same is.lies;
-      own = is.own;
-    }
+-- ---- what a job stands on reads as before
 
-pub basis_apart : (n : ℕ) (old new : HostState) → AgreeBut n old new → (cs : List Change) (ds : List Delta) → AllByRecursion (λ (c : Change). c.listed.job ≢ n) cs → AllZip (IsStoredFor old) cs ds → AllZip (IsStoredFor new) cs ds
-basis_apart n old new agree [] [] others zip = tt
-basis_apart n old new agree [] (d ∷ ds) others zip = absurd zip
-basis_apart n old new agree (c ∷ cs) [] others zip = absurd zip
-basis_apart n old new agree (c ∷ cs) (d ∷ ds) others zip =
-    (subst (λ b. IsStored b c.run.value d) (sym (agree c.listed.job others.0)) zip.0, basis_apart n old new agree cs ds others.1 zip.1)
+abbrev pub ReadsSame : HostState → HostState → Change → Type 0
+ReadsSame old new c = bytes_of new c.listed.job ≡ bytes_of old c.listed.job
 
-pub basis_still_lies : (n : ℕ) (old new : HostState) → AgreeBut n old new → (cs : List Change) → AllByRecursion (λ (c : Change). c.listed.job ≢ n) cs → AllByRecursion (λ (c : Change). LiesIn old c.listed.job c.run.value) cs
-    → AllByRecursion (λ (c : Change). LiesIn new c.listed.job c.run.value) cs
-basis_still_lies n old new agree [] others lies = tt
-basis_still_lies n old new agree (c ∷ cs) others lies = (lies_apart old new c.listed.job c.run.value (agree c.listed.job others.0) lies.0, basis_still_lies n old new agree cs others.1 lies.1)
+basis_still : (old new : HostState) (cs : List Change) (ds : List Delta) → AllByRecursion (ReadsSame old new) cs → AllZip (IsStoredFor old) cs ds → AllZip (IsStoredFor new) cs ds
+basis_still old new [] [] same zip = tt
+basis_still old new [] (d ∷ ds) same zip = absurd zip
+basis_still old new (c ∷ cs) [] same zip = absurd zip
+basis_still old new (c ∷ cs) (d ∷ ds) same zip = (subst (λ b. IsStored b c.run.value d) (sym same.0) zip.0, basis_still old new cs ds same.1 zip.1)
 
-pub stands_apart : (n : ℕ) (old new : HostState) → AgreeBut n old new → (live : LiveJob) (j : Job) → ¬ (live.layers.log.file ≡ n) → AllByRecursion (λ (c : Change). c.listed.job ≢ n) (selected live.layers)
-    → JobStands old live j → JobStands new live j
-stands_apart n old new agree live j other others stands =
+basis_lies_still : (old new : HostState) (cs : List Change) → AllByRecursion (ReadsSame old new) cs → AllByRecursion (λ (c : Change). LiesIn old c.listed.job c.run.value) cs → AllByRecursion (λ (c : Change). LiesIn new c.listed.job c.run.value) cs
+basis_lies_still old new [] same lies = tt
+basis_lies_still old new (c ∷ cs) same lies = (lies_apart old new c.listed.job c.run.value same.0 lies.0, basis_lies_still old new cs same.1 lies.1)
+
+pub stands_still : (old new : HostState) (live : LiveJob) (j : Job) → bytes_of new live.layers.log.file ≡ bytes_of old live.layers.log.file → AllByRecursion (ReadsSame old new) (selected live.layers) → JobStands old live j → JobStands new live j
+stands_still old new live j same others stands =
     let layers = live.layers in
-    let same = agree layers.log.file other in
     record {
       ids = stands.ids;
       settings = stands.settings;
-      stand = stand_from new layers (log_apart old new layers.log same stands.stand.log) (basis_still_lies n old new agree (selected layers) others (basis_lies old layers stands.stand))
+      stand = stand_from new layers (log_apart old new layers.log same stands.stand.log) (basis_lies_still old new (selected layers) others (basis_lies old layers stands.stand))
           (all_weaker (λ (r : Run). LiesIn old layers.log.file r) (λ (r : Run). LiesIn new layers.log.file r) (own_runs layers) (λ r. lies_apart old new layers.log.file r same) (own_lie old layers stands.stand));
       layers = record { closed = subst (λ b. AreStored b (own_runs layers) j.layers.closed) (sym same) stands.layers.closed; open_ = stands.layers.open_ };
-      basis = basis_apart n old new agree (selected layers) j.basis others stands.basis;
+      basis = basis_still old new (selected layers) j.basis others stands.basis;
       fair = stands.fair;
     }
+
+-- ---- files but one
+
+reads_same : (n : ℕ) (old new : HostState) → AgreeBut n old new → (cs : List Change) → AllByRecursion (λ (c : Change). c.listed.job ≢ n) cs → AllByRecursion (ReadsSame old new) cs
+reads_same n old new agree cs others = all_weaker (λ (c : Change). c.listed.job ≢ n) (ReadsSame old new) cs (λ c other. agree c.listed.job other) others
+
+pub basis_apart : (n : ℕ) (old new : HostState) → AgreeBut n old new → (cs : List Change) (ds : List Delta) → AllByRecursion (λ (c : Change). c.listed.job ≢ n) cs → AllZip (IsStoredFor old) cs ds → AllZip (IsStoredFor new) cs ds
+basis_apart n old new agree cs ds others zip = basis_still old new cs ds (reads_same n old new agree cs others) zip
+
+pub basis_still_lies : (n : ℕ) (old new : HostState) → AgreeBut n old new → (cs : List Change) → AllByRecursion (λ (c : Change). c.listed.job ≢ n) cs → AllByRecursion (λ (c : Change). LiesIn old c.listed.job c.run.value) cs
+    → AllByRecursion (λ (c : Change). LiesIn new c.listed.job c.run.value) cs
+basis_still_lies n old new agree cs others lies = basis_lies_still old new cs (reads_same n old new agree cs others) lies

@@ -13,7 +13,7 @@ use Rattle.dfs_table.proofs.Stays.{all_weaker}
 use Rattle.dfs_view.specs.Layers.{AreStored, LiesIn, own_runs, selected}
 use Rattle.dfs_job.specs.declared.job.Job.{Job as LiveJob}
 use Rattle.dfs_job.specs.Job.{Job}
-use Rattle.dfs_job.specs.Stands.{IsStoredFor, JobStands}
+use Rattle.dfs_job.specs.Stands.{IsSelectable, IsStoredFor, JobStands}
 use Rattle.dfs_job.proofs.Seen.{basis_lies, own_lie, stand_from}
 
 -- every file but this one reads as before
@@ -38,11 +38,19 @@ log_apart old new log same stands = record {
 abbrev pub ReadsSame : HostState → HostState → Change → Type 0
 ReadsSame old new c = bytes_of new c.listed.job ≡ bytes_of old c.listed.job
 
-basis_still : (old new : HostState) (cs : List Change) (ds : List Delta) → AllByRecursion (ReadsSame old new) cs → AllZip (IsStoredFor old) cs ds → AllZip (IsStoredFor new) cs ds
+pub basis_still : (old new : HostState) (cs : List Change) (ds : List Delta) → AllByRecursion (ReadsSame old new) cs → AllZip (IsStoredFor old) cs ds → AllZip (IsStoredFor new) cs ds
 basis_still old new [] [] same zip = tt
 basis_still old new [] (d ∷ ds) same zip = absurd zip
 basis_still old new (c ∷ cs) [] same zip = absurd zip
 basis_still old new (c ∷ cs) (d ∷ ds) same zip = (subst (λ b. IsStored b c.run.value d) (sym same.0) zip.0, basis_still old new cs ds same.1 zip.1)
+
+pub selectable_still : (old new : HostState) (c : Change) → ReadsSame old new c → IsSelectable old c → IsSelectable new c
+selectable_still old new c same is = record {
+  changes = is.changes;
+  stored = subst (λ b. IsStored b c.run.value is.changes) (sym same) is.stored;
+  lies = lies_apart old new c.listed.job c.run.value same is.lies;
+  own = is.own;
+}
 
 basis_lies_still : (old new : HostState) (cs : List Change) → AllByRecursion (ReadsSame old new) cs → AllByRecursion (λ (c : Change). LiesIn old c.listed.job c.run.value) cs → AllByRecursion (λ (c : Change). LiesIn new c.listed.job c.run.value) cs
 basis_lies_still old new [] same lies = tt

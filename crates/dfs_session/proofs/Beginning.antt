@@ -12,33 +12,29 @@ use Rattle.dfs_host.specs.declared.fault.Failed.{Failed}
 use Rattle.dfs_host.specs.declared.fault.Fault.{Fault}
 use Rattle.dfs_host.specs.declared.fault.Fault.TheVariants.{NoMemory, Disk, LogFull, Changed}
 use Rattle.dfs_host.proofs.Moments.{silent_only}
-use Rattle.dfs_log.specs.Logs.{LogState, LogStands, begun as begun_log}
 use Rattle.dfs_record.specs.Delta.{Delta}
-use Rattle.dfs_record.specs.KeyMap.{empty}
-use Rattle.dfs_record.specs.Namespace.{replay}
 use Rattle.dfs_registry.specs.declared.listed.Listed.{Listed}
 use Rattle.dfs_registry.specs.Body.{greatest_job, lists_job}
-use Rattle.dfs_registry.proofs.Standing.{standing_list}
 use Rattle.dfs_ops.specs.declared.Ids.{Ids}
 use Rattle.dfs_reply.specs.declared.Reply.TheVariants.{Job as JobReply}
 use Rattle.dfs_reply.specs.Text.{text}
 use Rattle.dfs_script.specs.declared.JobWord.{JobWord}
-use Rattle.dfs_session.specs.declared.job.Job.{Job as LiveJob}
+use Rattle.dfs_view.specs.Layers.{selected}
+use Rattle.dfs_job.specs.declared.job.Job.{Job as LiveJob}
+use Rattle.dfs_job.specs.Job.{Job, begun, first_ids}
+use Rattle.dfs_job.specs.Stands.{JobIsSound, JobStands, StandsForOne}
 use Rattle.dfs_session.specs.declared.session.Session.{Session as LiveSession}
-use Rattle.dfs_session.specs.declared.settings.Settings.{Settings}
 use Rattle.dfs_session.specs.Files.{value_on}
 use Rattle.dfs_session.specs.Images.{HoldsEither}
-use Rattle.dfs_session.specs.Job.{first_ids}
-use Rattle.dfs_session.specs.Session.{Session, Step, begins_over, word_cmp, Registry}
-use Rattle.dfs_session.specs.Sound.{IsSound, IsLive, JobIsSound, AreApart, LogOf, number_of, jobs_of, listed_in}
-use Rattle.dfs_session.specs.Stands.{Stands, JobStands}
-use Rattle.dfs_session.specs.Worked.{IsWorked, has_refused}
+use Rattle.dfs_session.specs.Session.{Session, begins_over, word_cmp, Registry}
+use Rattle.dfs_session.specs.Sound.{AreApart, IsListed, IsLive, IsSound, PlainOf, number_of, jobs_of, listed_in}
+use Rattle.dfs_session.specs.Stands.{EntryStands, Stands}
+use Rattle.dfs_session.specs.Worked.{IsWorked, Work, has_refused, plain}
 use Rattle.dfs_session.proofs.Faults.{sound_refused, full_by}
 use Rattle.dfs_session.proofs.Images.{own_images}
 use Rattle.dfs_session.proofs.Jobs.{Live, all_insert, apart_insert, zip_insert}
-use Rattle.dfs_session.proofs.Kept.{Keeps, only_keeps, registry_kept, log_stays, keep_listed, unlisted_apart, stands_kept}
+use Rattle.dfs_session.proofs.Kept.{EntryKept, Keeps, keep_jobs, keep_listed, only_keeps, plains_stay, registry_kept, registry_value, stands_kept, unlisted_apart}
 use Rattle.dfs_session.proofs.Lists.{mapped}
-use Rattle.dfs_session.proofs.Values.{listed_value}
 use Rattle.dfs_session.proofs.Working.{worked_by_memory}
 
 abbrev IsDiskFault : Fault → Type 0
@@ -55,10 +51,10 @@ is_disk_fault : {T : Type 0} (fault : Fault) → ◌≡◌ {A = Result T Fault} 
 is_disk_fault fault is = subst OnDiskFault is tt
 
 -- a line that a device call failed in
-pub disk_worked : (before after : HostState) (old new : LiveSession) (does : Session → Step) → SaysNothing before after → HasFaultCause {T = Vec ℕ} before after (Err Disk) → has_refused new ≡ false
-    → ((s : Session) → IsTrue before.tells → Stands before old s → LeavesOnly (HoldsEither s.registry (does s).session.registry) before after)
-    → IsWorked does before after old new (Err Disk)
-disk_worked before after old new does silent cause refused images = record {
+pub disk_worked : (before after : HostState) (old new : LiveSession) (work : Work) → SaysNothing before after → HasFaultCause {T = Vec ℕ} before after (Err Disk) → has_refused new ≡ false
+    → ((s : Session) → IsTrue before.tells → Stands before old s → LeavesOnly (HoldsEither s.registry (work.step s).session.registry) before after)
+    → IsWorked work before after old new (Err Disk)
+disk_worked before after old new work silent cause refused images = record {
   sound = tt;
   settings = tt;
   reply = λ s tells stands. tt;
@@ -68,17 +64,16 @@ disk_worked before after old new does silent cause refused images = record {
   silent = silent;
   cause = cause;
   full = full_by (Err Disk) new (is_disk_fault LogFull) refused;
-  never_full = λ is. absurd (is_disk_fault LogFull is);
-  never_changed = λ file at is. is_disk_fault (Changed file at) is;
+  short = λ s tells stands is. absurd (is_disk_fault LogFull is);
 }
 
 -- a line that found no memory
-pub no_memory_worked : (before after : HostState) (old new : LiveSession) (does : Session → Step) → SaysNothing before after → NoFault before after → has_refused new ≡ false → new.settings ≡ old.settings
-    → ((s : Session) → IsTrue before.tells → Stands before old s → value_on after ≡ Some s.registry) → ((s : Session) → IsTrue before.tells → Stands before old s → (does s).session.registry ≡ s.registry)
-    → ((s : Session) → IsTrue before.tells → Stands before old s → LeavesOnly (HoldsEither s.registry (does s).session.registry) before after)
-    → IsWorked does before after old new (Err NoMemory)
-no_memory_worked before after old new does silent none refused settings value same images =
-    worked_by_memory before after old new does (Err NoMemory) refl silent none refused settings tt (λ s tells stands. tt) (λ s tells stands. tt) value same images
+pub no_memory_worked : (before after : HostState) (old new : LiveSession) (work : Work) → SaysNothing before after → NoFault before after → has_refused new ≡ false → new.settings ≡ work.settings old.settings
+    → ((s : Session) → IsTrue before.tells → Stands before old s → value_on after ≡ Some s.registry) → ((s : Session) → IsTrue before.tells → Stands before old s → (work.step s).session.registry ≡ s.registry)
+    → ((s : Session) → IsTrue before.tells → Stands before old s → LeavesOnly (HoldsEither s.registry (work.step s).session.registry) before after)
+    → IsWorked work before after old new (Err NoMemory)
+no_memory_worked before after old new work silent none refused settings value same images =
+    worked_by_memory before after old new work (Err NoMemory) refl silent none refused settings tt (λ s tells stands. tt) (λ s tells stands. tt) value same images
 
 -- the cause of a call on the disk that failed, and of one that did not
 pub failed_cause : {T U : Type 0} {before after : HostState} (result : Result T Failed) (failed : Failed) → result ≡ Err failed → HasDiskCause before after result → after.reads ≡ before.reads → HasFaultCause {T = U} before after (Err Disk)
@@ -101,11 +96,6 @@ fine_cause {T} {before} {after} result x is cause reads =
     let kept : after.disk_faults ≡ before.disk_faults = (subst (λ (r : Result T Failed). HasDiskCause before after r) is cause).disk_faults.kept in
     record { tells = cause.tells; later = cause.later; disk_faults = kept; say_faults = cause.say_faults; reads_later = omega (arith, reads) }
 
--- what the files stand for is kept where file 0 and the listed logs are
-pub value_kept : (before after : HostState) (session : LiveSession) (s : Session) → IsTrue before.tells → IsSound before session → Stands before session s → Keeps before after 0 → AllByRecursion (λ l. Keeps before after l.job) (listed_in session) → value_on after ≡ Some s.registry
-value_kept before after session s tells sound stands zero keep =
-    listed_value after (listed_in session) (standing_list after session.registry (registry_kept before after session.registry zero (sound.registry tells))) ∙ ap Some (sym (stands_kept before after session s keep stands).registry)
-
 greater_unlisted : (ls : List Listed) (n : ℕ) → greatest_job ls < n → lists_job ls n ≡ false
 greater_unlisted [] n below = refl
 greater_unlisted (l ∷ ls) n below =
@@ -127,34 +117,36 @@ module _ (before after : HostState) (session : LiveSession) (sound : IsSound bef
   keeps_listed : IsTrue before.tells → AllByRecursion (λ l. Keeps before after l.job) (listed_in session)
   keeps_listed tells = keep_listed before after (listed_in session) number (only_keeps only tells) (unlisted_apart (listed_in session) number unlisted)
 
+  other_numbers : (es : Live) → AllByRecursion (λ e. IsLive session.greatest (listed_in session) e.1) es → AllByRecursion (λ e. number_of e.1 ≢ number) es
+  other_numbers [] live = tt
+  other_numbers (e ∷ es) live = (λ is. absurd (omega (arith, is, live.0.numbered)), other_numbers es live.1)
+
+  keeps_jobs : IsTrue before.tells → AllByRecursion (EntryKept before after) (jobs_of session)
+  keeps_jobs tells = keep_jobs before after (listed_in session) session.greatest number (only_keeps only tells) unlisted (jobs_of session) sound.memory.jobs (other_numbers (jobs_of session) sound.memory.jobs)
+
   pub begun_value : (s : Session) → IsTrue before.tells → Stands before session s → value_on after ≡ Some s.registry
-  begun_value s tells stands = value_kept before after session s tells sound stands (keeps_zero tells) (keeps_listed tells)
+  begun_value s tells stands = registry_value before after session s tells sound stands (keeps_zero tells) (keeps_listed tells)
 
   pub begun_images : (s : Session) (later : Registry) → IsTrue before.tells → Stands before session s → LeavesOnly (HoldsEither s.registry later) before after
   begun_images s later tells stands = own_images before after session s later number tells sound stands (λ is. absurd (omega (arith, is))) (unlisted_apart (listed_in session) number unlisted) only
 
-  logs_kept : IsTrue before.tells → (es : Live) → AllByRecursion (λ e. IsLive session.settings.log_bytes session.greatest (listed_in session) e.1) es → AllByRecursion (LogOf before) es → AllByRecursion (LogOf after) es
-  logs_kept tells [] live logs = tt
-  logs_kept tells (e ∷ es) live logs =
-      (log_stays before after e.1.log (only_keeps only tells e.1.log.file (λ is. absurd (omega (arith, is, live.0.sound.file, live.0.numbered)))) logs.0, logs_kept tells es live.1 logs.1)
-
-  module _ (word : JobWord) (job : LiveJob) (jobs : BTreeMap JobWord LiveJob) (inserted : jobs.entries ≡ insert_entry word_cmp (jobs_of session) word job) (is_sound : JobIsSound job) (ids : job.ids ≡ first_ids number)
-      (log : job.log ≡ begun_log number session.settings.log_bytes) (log_stands : IsTrue before.tells → LogStands after job.log) where
+  module _ (word : JobWord) (job : LiveJob) (jobs : BTreeMap JobWord LiveJob) (inserted : jobs.entries ≡ insert_entry word_cmp (jobs_of session) word job) (is_sound : JobIsSound after job) (ids : job.ids ≡ first_ids number)
+      (basis_listed : AllByRecursion (IsListed (listed_in session)) (selected job.layers)) where
     abbrev begun_session : LiveSession
     begun_session = record session { jobs = jobs; greatest = number }
 
-    is_live : IsLive session.settings.log_bytes number (listed_in session) job
+    is_live : IsLive number (listed_in session) job
     is_live = let same : number_of job ≡ number = ap (λ (n : Ids). n.job) ids in record {
-      sound = is_sound;
+      fit = is_sound.fit;
       numbered = omega (arith, same);
       unlisted = ap (lists_job (listed_in session)) same ∙ unlisted;
-      limit = ap (λ (l : LogState). l.limit) log;
+      basis = basis_listed;
     }
 
-    later_live : (x : LiveJob) → IsLive session.settings.log_bytes session.greatest (listed_in session) x → IsLive session.settings.log_bytes number (listed_in session) x
-    later_live x live = record { sound = live.sound; numbered = omega (arith, live.numbered); unlisted = live.unlisted; limit = live.limit }
+    later_live : (x : LiveJob) → IsLive session.greatest (listed_in session) x → IsLive number (listed_in session) x
+    later_live x live = record { fit = live.fit; numbered = omega (arith, live.numbered); unlisted = live.unlisted; basis = live.basis }
 
-    others : (es : Live) → AllByRecursion (λ e. IsLive session.settings.log_bytes session.greatest (listed_in session) e.1) es → AllByRecursion (λ e. number_of job ≢ number_of e.1) es
+    others : (es : Live) → AllByRecursion (λ e. IsLive session.greatest (listed_in session) e.1) es → AllByRecursion (λ e. number_of job ≢ number_of e.1) es
     others [] live = tt
     others (e ∷ es) live = (λ is. let same : number_of job ≡ number = ap (λ (n : Ids). n.job) ids in absurd (omega (arith, is, same, live.0.numbered)), others es live.1)
 
@@ -166,41 +158,36 @@ module _ (before after : HostState) (session : LiveSession) (sound : IsSound bef
         settings = sound.memory.settings;
         greatest = omega (arith, room);
         listed = omega (arith, sound.memory.listed);
-        jobs = subst (λ (es : Live). AllByRecursion (λ e. IsLive session.settings.log_bytes number (listed_in session) e.1) es) (sym inserted)
-            (all_insert (λ x. IsLive session.settings.log_bytes number (listed_in session) x) (jobs_of session) word job is_live
-            (mapped (λ e. IsLive session.settings.log_bytes session.greatest (listed_in session) e.1) (λ e. IsLive session.settings.log_bytes number (listed_in session) e.1) (jobs_of session) (λ e live. later_live e.1 live) sound.memory.jobs));
+        jobs = subst (λ (es : Live). AllByRecursion (λ e. IsLive number (listed_in session) e.1) es) (sym inserted)
+            (all_insert (λ x. IsLive number (listed_in session) x) (jobs_of session) word job is_live
+            (mapped (λ e. IsLive session.greatest (listed_in session) e.1) (λ e. IsLive number (listed_in session) e.1) (jobs_of session) (λ e live. later_live e.1 live) sound.memory.jobs));
         apart = subst AreApart (sym inserted) (apart_insert (jobs_of session) word job (others (jobs_of session) sound.memory.jobs) sound.memory.apart);
       };
       registry = λ tells. let told = sym only.tells ∙ tells in registry_kept before after session.registry (keeps_zero told) (sound.registry told);
-      logs = λ tells. let told = sym only.tells ∙ tells in
-          subst (λ (es : Live). AllByRecursion (LogOf after) es) (sym inserted)
-          (all_insert (λ x. LogStands after x.log) (jobs_of session) word job (log_stands told) (logs_kept told (jobs_of session) sound.memory.jobs (sound.logs told)));
+      jobs = λ tells. let told = sym only.tells ∙ tells in
+          subst (λ (es : Live). AllByRecursion (PlainOf after) es) (sym inserted)
+          (all_insert (λ x. StandsForOne after x) (jobs_of session) word job (is_sound.stands tells) (plains_stay before after (jobs_of session) (keeps_jobs told) (sound.jobs told)));
     }
 
-    pub begun_stands : (basis : List Delta) (s : Session) → job.space.entries ≡ replay basis [] → job.space.own ≡ empty → IsTrue before.tells → Stands before session s → Stands after begun_session (begins_over s word basis).session
-    begun_stands basis s entries own tells stands =
-        let kept = stands_kept before after session s (keeps_listed tells) stands in
-        let next : s.greatest + 1 ≡ number = ap (λ (n : ℕ). n + 1) stands.greatest in
+    pub begun_stands : (basis : List Delta) (s : Session) → JobStands after job (begun number basis session.settings) → IsTrue before.tells → Stands before session s → Stands after begun_session (begins_over s word basis).session
+    begun_stands basis s job_stands tells stands =
+        let kept = stands_kept before after session s (keeps_listed tells) (keeps_jobs tells) stands in
+        let next : number ≡ s.greatest + 1 = ap (λ (n : ℕ). n + 1) (sym stands.greatest) in
         record {
           registry = kept.registry;
           settled = kept.settled;
-          jobs = subst (λ (es : Live). AllZip JobStands es (begins_over s word basis).session.jobs) (sym inserted)
-              (zip_insert (jobs_of session) s.jobs word job _ stands.jobs (record {
-                ids = ap first_ids next ∙ sym ids;
-                entries = entries;
-                own = own;
-                limit = ap (λ (l : LogState). l.limit) log ∙ ap (λ (t : Settings). t.log_bytes) (sym stands.settings);
-              }));
-          greatest = next;
+          jobs = subst (λ (es : Live). AllZip (EntryStands after) es (begins_over s word basis).session.jobs) (sym inserted)
+              (zip_insert after (jobs_of session) s.jobs word job _ kept.jobs (subst (λ (j : Job). JobStands after job j) (λ i. begun (next i) basis (sym stands.settings i)) job_stands));
+          greatest = sym next;
           settings = stands.settings;
         }
 
-    pub begun_worked : (basis : List Delta) (bytes : Vec ℕ) → (IsTrue before.tells → job.space.entries ≡ replay basis []) → job.space.own ≡ empty → NoFault before after → bytes.items ≡ text (JobReply number)
-        → IsWorked (λ s. begins_over s word basis) before after session begun_session (Ok bytes)
-    begun_worked basis bytes entries own none says =
-        worked_by_memory before after session begun_session (λ s. begins_over s word basis) (Ok bytes) tt (silent_only only) none (sound_refused begun_session begun_sound.memory) refl begun_sound
+    pub begun_worked : (basis : List Delta) (bytes : Vec ℕ) → (IsTrue before.tells → JobStands after job (begun number basis session.settings)) → NoFault before after → bytes.items ≡ text (JobReply number)
+        → IsWorked (plain (λ s. begins_over s word basis)) before after session begun_session (Ok bytes)
+    begun_worked basis bytes job_stands none says =
+        worked_by_memory before after session begun_session (plain (λ s. begins_over s word basis)) (Ok bytes) tt (silent_only only) none (sound_refused begun_session begun_sound.memory) refl begun_sound
         (λ s tells stands. says ∙ ap (λ (n : ℕ). text (JobReply (n + 1))) (sym stands.greatest))
-        (λ s tells stands. begun_stands basis s (entries tells) own tells stands)
+        (λ s tells stands. begun_stands basis s (job_stands tells) tells stands)
         (λ s tells stands. begun_value s tells stands)
         (λ s tells stands. refl)
         (λ s tells stands. begun_images s (begins_over s word basis).session.registry tells stands)

@@ -1,40 +1,39 @@
--- Lines of a live job: an operation, and its end.
-use Rattle.std.proofs.Common.{◌≡◌, ◌∙◌, ◌≤◌, ℕ, Bool, true, false, List, ◌++◌, Option, Some, None, Result, Err, refl, sym, ap, subst, append_assoc}
-use Rattle.std.specs.Prelude.{IfOk, IfNone, OnOk, is_some, nat_lt, flat_map}
+-- Lines of a live job: an operation, a flush, and its end.
+use Rattle.std.proofs.Common.{◌≡◌, ◌≢◌, ◌∙◌, ◌≤◌, ◌<◌, ℕ, zero, suc, Bool, true, false, List, Option, Some, None, Result, Err, refl, sym, ap, subst, arith}
+use Rattle.std.proofs.lemmas.Bool.{lt-ltb}
+use Rattle.std.specs.Prelude.{◌↔◌, IfOk, IfNone, OnOk, IsErrOf, IsTrue, is_some, nat_lt}
 use Rattle.std.specs.BTreeMap.{BTreeMap, is_at}
 use Rattle.std.specs.Global.{Vec}
 use Rattle.std.specs.List.{AllByRecursion, AllZip, list_any}
 use Rattle.std.specs.Map.{set_value, remove_entry}
-use Rattle.dfs_host.specs.Host.{HostState}
+use Rattle.dfs_host.specs.Fault.{HasFaultCause, NoFault}
+use Rattle.dfs_host.specs.Host.{HostState, LeavesOnly, Only, bytes_of}
 use Rattle.dfs_host.specs.declared.fault.Fault.{Fault}
+use Rattle.dfs_host.specs.declared.fault.Fault.TheVariants.{NoMemory, Disk, LogFull, Changed}
 use Rattle.dfs_host.proofs.Causes.{none_yet}
-use Rattle.dfs_host.proofs.Moments.{silent_reads, reads_nothing}
-use Rattle.dfs_log.specs.Logs.{LogState, LogStands}
-use Rattle.dfs_record.specs.declared.Record.{Record}
-use Rattle.dfs_record.specs.Delta.{records_of}
-use Rattle.dfs_record.specs.KeyMap.{empty}
-use Rattle.dfs_record.specs.Namespace.{after_records}
-use Rattle.dfs_record.proofs.Replays.{after-append}
-use Rattle.dfs_path.specs.declared.Op.{Op}
-use Rattle.dfs_ops.specs.declared.Ids.{Ids}
-use Rattle.dfs_ops.specs.declared.OpReply.{OpReply}
-use Rattle.dfs_ops.specs.Op.{Outcome, outcome, ids_after}
+use Rattle.dfs_host.proofs.Moments.{silent_only, silent_reads, reads_nothing}
 use Rattle.dfs_registry.specs.Body.{lists_job}
+use Rattle.dfs_registry.specs.Standing.{RegistryStands}
 use Rattle.dfs_reply.specs.declared.Reply.TheVariants.{Ok as OkReply}
 use Rattle.dfs_reply.specs.Text.{text}
 use Rattle.dfs_script.specs.declared.JobWord.{JobWord}
-use Rattle.dfs_session.specs.declared.job.Job.{Job as LiveJob}
+use Rattle.dfs_view.specs.Layers.{selected}
+use Rattle.dfs_job.specs.declared.job.Job.{Job as LiveJob}
+use Rattle.dfs_job.specs.Job.{Job}
+use Rattle.dfs_job.specs.Stands.{JobIsSound, JobStands, StandsForOne}
 use Rattle.dfs_session.specs.declared.session.Session.{Session as LiveSession}
-use Rattle.dfs_session.specs.Job.{Job, does, after}
-use Rattle.dfs_session.specs.Own.{with_records, with_records-append}
-use Rattle.dfs_session.specs.Session.{Session, Step, live_job, of_live, operates, operates_for, ends, told, word_cmp}
-use Rattle.dfs_session.specs.Sound.{IsSound, IsLive, JobIsSound, AreApart, LogOf, number_of, jobs_of, listed_in, live_in}
-use Rattle.dfs_session.specs.Stands.{Stands, IsJob, JobStands}
-use Rattle.dfs_session.specs.Worked.{IsWorked, has_refused}
+use Rattle.dfs_session.specs.Files.{value_on}
+use Rattle.dfs_session.specs.Images.{HoldsEither}
+use Rattle.dfs_session.specs.Session.{Registry, Session, Step, live_job, of_live, ends, word_cmp}
+use Rattle.dfs_session.specs.Sound.{AreApart, IsListed, IsLive, IsSound, PlainOf, jobs_of, listed_in, live_in, number_of}
+use Rattle.dfs_session.specs.Stands.{EntryStands, LeavesValue, Stands}
+use Rattle.dfs_session.specs.Worked.{IsShort, IsWorked, Work, has_refused, plain}
 use Rattle.dfs_session.proofs.Faults.{unrefused, each_unrefused, sound_refused, not_true}
-use Rattle.dfs_session.proofs.Images.{read_images}
-use Rattle.dfs_session.proofs.Jobs.{Live, FoundBoth, all_set, all_found, all_remove, apart_set, apart_remove, both_found, zip_set, zip_remove}
-use Rattle.dfs_session.proofs.Values.{stands_value}
+use Rattle.dfs_session.proofs.Handed.{fault_or, handed_cause}
+use Rattle.dfs_session.proofs.Images.{own_images, read_images}
+use Rattle.dfs_session.proofs.Jobs.{Live, FoundBoth, all_set, all_found, all_remove, any_set, apart_set, apart_remove, both_found, zip_remove}
+use Rattle.dfs_session.proofs.Kept.{Keeps, bytes_stay, keep_listed, only_keeps, plains_changed, registry_kept, registry_value, settled_stay, unlisted_apart, zip_changed}
+use Rattle.dfs_session.proofs.Values.{same_publications, stands_value}
 use Rattle.dfs_session.proofs.Working.{OnlyMemory, on_ok, worked_by_memory}
 
 abbrev Jobs : Type 0
@@ -53,133 +52,163 @@ pub unchanged_at : (o : Option LiveJob) (P : Type 0) → IfNone o P → o ≡ No
 unchanged_at o P when none = subst (λ (q : Option LiveJob). IfNone q P) none when
 
 -- the job of a word, in the session in memory and in the plain one
-pub record Found (s : Session) (word : JobWord) (live : LiveJob) : Type 0 where
+pub record Found (host : HostState) (s : Session) (word : JobWord) (live : LiveJob) : Type 0 where
   pub plain : Job
   pub found : live_job s word ≡ Some plain
-  pub is : IsJob live plain
+  pub is : JobStands host live plain
 
-pub found_job : (host : HostState) (session : LiveSession) (s : Session) (word : JobWord) (live : LiveJob) → Stands host session s → live_in session word ≡ Some live → Found s word live
+pub found_job : (host : HostState) (session : LiveSession) (s : Session) (word : JobWord) (live : LiveJob) → Stands host session s → live_in session word ≡ Some live → Found host s word live
 found_job host session s word live stands is =
-    by (live_job s word) refl (subst (λ (o : Option LiveJob). FoundBoth o (live_job s word)) is (both_found (is_at (word_cmp word)) (jobs_of session) s.jobs stands.jobs))
+    by (live_job s word) refl (subst (λ (o : Option LiveJob). FoundBoth host o (live_job s word)) is (both_found host (is_at (word_cmp word)) (jobs_of session) s.jobs stands.jobs))
   where
-    by : (o : Option Job) → live_job s word ≡ o → FoundBoth (Some live) o → Found s word live
+    by : (o : Option Job) → live_job s word ≡ o → FoundBoth host (Some live) o → Found host s word live
     by None none both = absurd both
     by (Some j) some both = record { plain = j; found = some; is = both }
 
 pub no_job : (host : HostState) (session : LiveSession) (s : Session) (word : JobWord) → Stands host session s → live_in session word ≡ None → live_job s word ≡ None
 no_job host session s word stands is =
-    by (live_job s word) (subst (λ (o : Option LiveJob). FoundBoth o (live_job s word)) is (both_found (is_at (word_cmp word)) (jobs_of session) s.jobs stands.jobs))
+    by (live_job s word) (subst (λ (o : Option LiveJob). FoundBoth host o (live_job s word)) is (both_found host (is_at (word_cmp word)) (jobs_of session) s.jobs stands.jobs))
   where
-    by : (o : Option Job) → FoundBoth None o → o ≡ None
+    by : (o : Option Job) → FoundBoth host None o → o ≡ None
     by None both = refl
     by (Some j) both = absurd both
 
--- a live job after an operation
-pub job_after : (live new : LiveJob) (j : Job) (op : Op) → IsJob live j
-    → new.ids ≡ ids_after live.ids (outcome live.space.entries live.ids op)
-    → new.space.entries ≡ after_records live.space.entries (outcome live.space.entries live.ids op).records
-    → new.space.own ≡ with_records live.space.own (outcome live.space.entries live.ids op).records
-    → new.log ≡ live.log → IsJob new (after j (does j op))
-job_after live new j op is ids entries own log =
-    let same : does j op ≡ outcome live.space.entries live.ids op = λ i. outcome (sym is.entries i) (is.ids i) op in
-    let rs : List Record = (does j op).records in
-    record {
-      ids = (λ i. ids_after (is.ids i) (same i)) ∙ sym ids;
-      entries = entries ∙ (λ i. after_records (is.entries i) (sym same i).records)
-          ∙ sym (after-append empty (flat_map records_of j.basis ++ j.opened) rs) ∙ ap (λ (l : List Record). after_records empty l) (append_assoc (flat_map records_of j.basis) j.opened rs);
-      own = own ∙ (λ i. with_records (is.own i) (sym same i).records) ∙ sym (with_records-append empty j.opened rs);
-      limit = ap (λ (l : LogState). l.limit) log ∙ is.limit;
-    }
+-- ---- the log of a live job, while its file alone changes
 
--- ---- the parts of a session with one job changed
-
-module _ (host : HostState) (session : LiveSession) (word : JobWord) (live new : LiveJob) (jobs : Jobs) (sound : IsSound host session) (found : live_in session word ≡ Some live)
-    (set : jobs.entries ≡ set_value (is_at (word_cmp word)) (jobs_of session) new) (log : new.log ≡ live.log) where
+module _ (before after : HostState) (session : LiveSession) (word : JobWord) (live : LiveJob) (sound : IsSound before session) (found : live_in session word ≡ Some live) where
   abbrev test : JobWord → Bool
   test = is_at (word_cmp word)
 
-  abbrev changed : LiveSession
-  changed = record session { jobs = jobs }
+  pub was_live : IsLive session.greatest (listed_in session) live
+  was_live = all_found (λ x. IsLive session.greatest (listed_in session) x) test (jobs_of session) live sound.memory.jobs found
 
-  was_live : IsLive session.settings.log_bytes session.greatest (listed_in session) live
-  was_live = all_found (λ x. IsLive session.settings.log_bytes session.greatest (listed_in session) x) test (jobs_of session) live sound.memory.jobs found
+  pub was_sound : JobIsSound before live
+  was_sound = record { fit = was_live.fit; stands = λ tells. all_found (λ x. StandsForOne before x) test (jobs_of session) live (sound.jobs tells) found }
 
-  pub changed_sound : JobIsSound new → number_of new ≡ number_of live → IsSound host changed
-  changed_sound is same = record {
-    memory = record {
-      live = sound.memory.live;
-      registry = sound.memory.registry;
-      settings = sound.memory.settings;
-      greatest = sound.memory.greatest;
-      listed = sound.memory.listed;
-      jobs = subst (λ (es : Live). AllByRecursion (λ e. IsLive session.settings.log_bytes session.greatest (listed_in session) e.1) es) (sym set)
-          (all_set (λ x. IsLive session.settings.log_bytes session.greatest (listed_in session) x) test (jobs_of session) new
-          (record {
-            sound = is;
-            numbered = subst (λ (n : ℕ). n ≤ session.greatest) (sym same) was_live.numbered;
-            unlisted = subst (λ (n : ℕ). lists_job (listed_in session) n ≡ false) (sym same) was_live.unlisted;
-            limit = ap (λ (l : LogState). l.limit) log ∙ was_live.limit;
-          })
-          sound.memory.jobs);
-      apart = subst AreApart (sym set) (apart_set test (jobs_of session) live new found same sound.memory.apart);
-    };
-    registry = sound.registry;
-    logs = λ tells. subst (λ (es : Live). AllByRecursion (LogOf host) es) (sym set)
-        (all_set (λ x. LogStands host x.log) test (jobs_of session) new (subst (λ (l : LogState). LogStands host l) (sym log) (all_found (λ x. LogStands host x.log) test (jobs_of session) live (sound.logs tells) found)) (sound.logs tells));
-  }
+  module _ (only : Only live.ids.job before after) where
+    pub own_keeps : IsTrue before.tells → (m : ℕ) → m ≢ live.ids.job → Keeps before after m
+    own_keeps tells m other = only_keeps only tells m other
 
-  -- no log refused a piece
-  pub changed_refused : has_refused changed ≡ false
-  changed_refused =
-      ap (λ (es : Live). list_any (λ e. nat_lt 0 e.1.log.refused) es) set
-      ∙ unrefused (set_value test (jobs_of session) new)
-      (all_set (λ x. x.log.refused ≡ 0) test (jobs_of session) new (ap (λ (l : LogState). l.refused) log ∙ was_live.sound.log.none_refused was_live.sound.live) (each_unrefused session.settings.log_bytes session.greatest (listed_in session) (jobs_of session) sound.memory.jobs))
+    no_root : 0 ≢ live.ids.job
+    no_root is = absurd (omega (arith, is, was_live.fit.ids.job))
 
-  pub changed_stands : (s : Session) (j : Job) → Stands host session s → IsJob new j → Stands host changed (record s { jobs = set_value test s.jobs j })
-  changed_stands s j stands is = record {
-    registry = stands.registry;
-    settled = stands.settled;
-    jobs = subst (λ (es : Live). AllZip JobStands es (set_value test s.jobs j)) (sym set) (zip_set test (jobs_of session) s.jobs new j stands.jobs is);
-    greatest = stands.greatest;
-    settings = stands.settings;
-  }
+    pub unlisted : AllByRecursion (λ l. l.job ≢ live.ids.job) (listed_in session)
+    unlisted = unlisted_apart (listed_in session) live.ids.job was_live.unlisted
 
-  -- an operation that was answered
-  pub operated_worked : (op : Op) (answer : OpReply) (result : Result (Vec ℕ) Fault) → JobIsSound new → answer ≡ (outcome live.space.entries live.ids op).answer
-      → new.ids ≡ ids_after live.ids (outcome live.space.entries live.ids op)
-      → new.space.entries ≡ after_records live.space.entries (outcome live.space.entries live.ids op).records
-      → new.space.own ≡ with_records live.space.own (outcome live.space.entries live.ids op).records
-      → IfOk result (λ bytes. bytes.items ≡ text (told answer)) → OnlyMemory result → IsWorked (λ s. operates_for s word op) host host session changed result
-  operated_worked op answer result is answers ids entries own says memory =
-      let new_sound = changed_sound is (ap (λ (n : Ids). n.job) ids) in
-      let stepped : (s : Session) (f : Found s word live) → operates_for s word op ≡ operates s word f.plain (does f.plain op) = λ s f. ap (λ (o : Option Job). of_live o s (λ j. operates s word j (does j op))) f.found in
-      let same : (s : Session) (f : Found s word live) → does f.plain op ≡ outcome live.space.entries live.ids op = λ s f. λ i. outcome (sym f.is.entries i) (f.is.ids i) op in
-      worked_by_memory host host session changed (λ s. operates_for s word op) result memory (silent_reads (reads_nothing host)) (none_yet host) changed_refused refl (on_ok result (IsSound host changed) new_sound)
-      (λ s tells stands. let f = found_job host session s word live stands found in
-      subst (λ (t : Step). IfOk result (λ bytes. bytes.items ≡ text t.reply)) (sym (stepped s f)) (subst (λ (a : OpReply). IfOk result (λ bytes. bytes.items ≡ text (told a))) (answers ∙ sym (ap (λ (o : Outcome). o.answer) (same s f))) says))
-      (λ s tells stands. let f = found_job host session s word live stands found in
-      subst (λ (t : Step). OnOk result (Stands host changed t.session)) (sym (stepped s f)) (on_ok result (Stands host changed (operates s word f.plain (does f.plain op)).session) (changed_stands s (after f.plain (does f.plain op)) stands (job_after live new f.plain op f.is ids entries own log))))
-      (λ s tells stands. stands_value host session s tells sound stands)
-      (λ s tells stands. let f = found_job host session s word live stands found in ap (λ (t : Step). t.session.registry) (stepped s f))
-      (λ s tells stands. read_images host host session s (operates_for s word op).session.registry tells sound stands (reads_nothing host))
+    pub listed_kept : IsTrue before.tells → AllByRecursion (λ l. Keeps before after l.job) (listed_in session)
+    listed_kept tells = keep_listed before after (listed_in session) live.ids.job (own_keeps tells) unlisted
 
-  -- one that found no memory
-  pub failed_worked : (op : Op) (result : Result (Vec ℕ) Fault) → (fault : Fault) → result ≡ Err fault → OnlyMemory result → IsWorked (λ s. operates_for s word op) host host session changed result
-  failed_worked op result fault is memory =
-      let never : (P : Type 0) → OnOk result P = λ P. subst (λ (r : Result (Vec ℕ) Fault). OnOk r P) (sym is) tt in
-      let no_reply : (P : Vec ℕ → Type 0) → IfOk result P = λ P. subst (λ (r : Result (Vec ℕ) Fault). IfOk r P) (sym is) tt in
-      worked_by_memory host host session changed (λ s. operates_for s word op) result memory (silent_reads (reads_nothing host)) (none_yet host) changed_refused refl (never (IsSound host changed))
-      (λ s tells stands. no_reply (λ bytes. bytes.items ≡ text (operates_for s word op).reply))
-      (λ s tells stands. never (Stands host changed (operates_for s word op).session))
-      (λ s tells stands. stands_value host session s tells sound stands)
-      (λ s tells stands. let f = found_job host session s word live stands found in ap (λ (o : Option Job). (of_live o s (λ j. operates s word j (does j op))).session.registry) f.found)
-      (λ s tells stands. read_images host host session s (operates_for s word op).session.registry tells sound stands (reads_nothing host))
+    pub registry_still : IsTrue after.tells → RegistryStands after session.registry
+    registry_still tells = let told = sym only.tells ∙ tells in registry_kept before after session.registry (own_keeps told 0 no_root) (sound.registry told)
+
+    pub own_value : (s : Session) → IsTrue before.tells → Stands before session s → value_on after ≡ Some s.registry
+    own_value s tells stands = registry_value before after session s tells sound stands (own_keeps tells 0 no_root) (listed_kept tells)
+
+    pub own_job_images : (s : Session) (later : Registry) → IsTrue before.tells → Stands before session s → LeavesOnly (HoldsEither s.registry later) before after
+    own_job_images s later tells stands = own_images before after session s later live.ids.job tells sound stands no_root unlisted only
+
+    -- the session with another state of the job
+    module _ (new : LiveJob) (jobs : Jobs) (set : jobs.entries ≡ set_value test (jobs_of session) new) where
+      abbrev changed : LiveSession
+      changed = record session { jobs = jobs }
+
+      pub still_unrefused : new.layers.log.refused ≡ 0 → has_refused changed ≡ false
+      still_unrefused none =
+          ap (λ (es : Live). list_any (λ e. nat_lt 0 e.1.layers.log.refused) es) set
+          ∙ unrefused (set_value test (jobs_of session) new) (all_set (λ x. x.layers.log.refused ≡ 0) test (jobs_of session) new none (each_unrefused session.greatest (listed_in session) (jobs_of session) sound.memory.jobs))
+
+      now_refused : 0 < new.layers.log.refused → has_refused changed ≡ true
+      now_refused some = ap (λ (es : Live). list_any (λ e. nat_lt 0 e.1.layers.log.refused) es) set ∙ any_set test (jobs_of session) live new found (lt-ltb 0 new.layers.log.refused some)
+
+      -- `LogFull` exactly where the job's log refused a piece
+      pub full_with : {T : Type 0} (result : Result T Fault) → (IsErrOf result LogFull ↔ (0 < new.layers.log.refused)) → IsErrOf result LogFull ↔ IsTrue (has_refused changed)
+      full_with result full = (λ is. now_refused (full.0 is), λ holds. full.1 (some holds))
+        where
+          some : IsTrue (has_refused changed) → 0 < new.layers.log.refused
+          some holds = by new.layers.log.refused refl
+            where
+              by : (n : ℕ) → new.layers.log.refused ≡ n → 0 < n
+              by zero none = absurd (not_true (has_refused changed) (still_unrefused none) holds)
+              by (suc n) is = omega arith
+
+      pub changed_sound : JobIsSound after new → new.ids.job ≡ live.ids.job → selected new.layers ≡ selected live.layers → IsSound after changed
+      changed_sound is same basis = record {
+        memory = record {
+          live = sound.memory.live;
+          registry = sound.memory.registry;
+          settings = sound.memory.settings;
+          greatest = sound.memory.greatest;
+          listed = sound.memory.listed;
+          jobs = subst (λ (es : Live). AllByRecursion (λ e. IsLive session.greatest (listed_in session) e.1) es) (sym set)
+              (all_set (λ x. IsLive session.greatest (listed_in session) x) test (jobs_of session) new
+              (record {
+                fit = is.fit;
+                numbered = subst (λ (n : ℕ). n ≤ session.greatest) (sym same) was_live.numbered;
+                unlisted = subst (λ (n : ℕ). lists_job (listed_in session) n ≡ false) (sym same) was_live.unlisted;
+                basis = subst (AllByRecursion (IsListed (listed_in session))) (sym basis) was_live.basis;
+              })
+              sound.memory.jobs);
+          apart = subst AreApart (sym set) (apart_set test (jobs_of session) live new found same sound.memory.apart);
+        };
+        registry = registry_still;
+        jobs = λ tells. let told = sym only.tells ∙ tells in
+            subst (λ (es : Live). AllByRecursion (PlainOf after) es) (sym set)
+            (plains_changed before after (listed_in session) session.greatest live.ids.job (own_keeps told) was_live.unlisted test (jobs_of session) live new found refl sound.memory.jobs sound.memory.apart (is.stands tells) (sound.jobs told));
+      }
+
+      pub changed_stands : (s : Session) (j : Job) → IsTrue before.tells → Stands before session s → JobStands after new j → Stands after changed (record s { jobs = set_value test s.jobs j })
+      changed_stands s j tells stands is = record {
+        registry = stands.registry ∙ sym (same_publications (bytes_of before) (bytes_of after) (listed_in session) (bytes_stay before after (listed_in session) (listed_kept tells)));
+        settled = settled_stay before after (listed_in session) (listed_kept tells) stands.settled;
+        jobs = subst (λ (es : Live). AllZip (EntryStands after) es (set_value test s.jobs j)) (sym set)
+            (zip_changed before after (listed_in session) session.greatest live.ids.job (own_keeps tells) was_live.unlisted test (jobs_of session) s.jobs live new j found refl sound.memory.jobs sound.memory.apart is stands.jobs);
+        greatest = stands.greatest;
+        settings = stands.settings;
+      }
+
+      -- a call on the job that met a fault
+      pub fault_worked : {T : Type 0} (work : Work) (fault : Fault) → HasFaultCause {T = T} before after (Err fault) → (IsErrOf {T = T} (Err fault) LogFull ↔ (0 < new.layers.log.refused))
+          → ((s : Session) → IsTrue before.tells → Stands before session s → fault ≡ LogFull → IsShort (work.job s)) → IsWorked work before after session changed (Err fault)
+      fault_worked {T} work fault cause full short = record {
+        sound = tt;
+        settings = tt;
+        reply = λ s tells stands. tt;
+        stands = λ s tells stands. tt;
+        value = λ s tells stands. leaves fault s.registry (work.step s).session.registry (value_on after) (own_value s tells stands);
+        images = λ s tells stands. own_job_images s (work.step s).session.registry tells stands;
+        silent = silent_only only;
+        cause = handed_cause fault (none_yet before) cause;
+        full = full_with (Err fault) (λ is. full.0 (ap Err (ap fault_or is)), λ some. ap Err (ap (fault_or {T = T}) (full.1 some)));
+        short = λ s tells stands is. short s tells stands (ap fault_or is);
+      }
+        where
+          leaves : (f : Fault) (a b : Registry) (files : Option Registry) → files ≡ Some a → LeavesValue {T = Vec ℕ} (Err f) a b files
+          leaves NoMemory a b files same = same
+          leaves Disk a b files same = tt
+          leaves LogFull a b files same = same
+          leaves (Changed file at) a b files same = same
+
+      -- a call on the job that was answered, and then the text of the reply
+      pub answered_worked : (work : Work) (next : (s : Session) → Found before s word live → Step) (result : Result (Vec ℕ) Fault) → NoFault before after → new.layers.log.refused ≡ 0 → session.settings ≡ work.settings session.settings
+          → JobIsSound after new → new.ids.job ≡ live.ids.job → selected new.layers ≡ selected live.layers
+          → ((s : Session) (f : Found before s word live) → work.step s ≡ next s f) → ((s : Session) (f : Found before s word live) → (next s f).session.registry ≡ s.registry)
+          → ((s : Session) (f : Found before s word live) → IsTrue before.tells → IfOk result (λ bytes. bytes.items ≡ text (next s f).reply))
+          → ((s : Session) (f : Found before s word live) → IsTrue before.tells → Stands before session s → Stands after changed (next s f).session) → OnlyMemory result → IsWorked work before after session changed result
+      answered_worked work next result none unrefused given is same basis stepped kept says stood memory =
+          let new_sound = changed_sound is same basis in
+          let found_in : (s : Session) → Stands before session s → Found before s word live = λ s stands. found_job before session s word live stands found in
+          worked_by_memory before after session changed work result memory (silent_only only) none (still_unrefused unrefused) given (on_ok result (IsSound after changed) new_sound)
+          (λ s tells stands. let f = found_in s stands in subst (λ (t : Step). IfOk result (λ bytes. bytes.items ≡ text t.reply)) (sym (stepped s f)) (says s f tells))
+          (λ s tells stands. let f = found_in s stands in subst (λ (t : Step). OnOk result (Stands after changed t.session)) (sym (stepped s f)) (on_ok result (Stands after changed (next s f).session) (stood s f tells stands)))
+          (λ s tells stands. own_value s tells stands)
+          (λ s tells stands. let f = found_in s stands in ap (λ (t : Step). t.session.registry) (stepped s f) ∙ kept s f)
+          (λ s tells stands. own_job_images s (work.step s).session.registry tells stands)
 
 -- ---- a job that ends
 
 pub ended_worked : (host : HostState) (session : LiveSession) (word : JobWord) (live : LiveJob) (jobs : Jobs) (result : Result (Vec ℕ) Fault) → IsSound host session → live_in session word ≡ Some live
     → jobs.entries ≡ remove_entry (is_at (word_cmp word)) (jobs_of session) → IfOk result (λ bytes. bytes.items ≡ text OkReply) → OnlyMemory result
-    → IsWorked (λ s. ends s word) host host session (record session { jobs = jobs }) result
+    → IsWorked (plain (λ s. ends s word)) host host session (record session { jobs = jobs }) result
 ended_worked host session word live jobs result sound found gone says memory =
     let test : JobWord → Bool = is_at (word_cmp word) in
     let new : LiveSession = record session { jobs = jobs } in
@@ -190,22 +219,21 @@ ended_worked host session word live jobs result sound found gone says memory =
         settings = sound.memory.settings;
         greatest = sound.memory.greatest;
         listed = sound.memory.listed;
-        jobs = subst (λ (es : Live). AllByRecursion (λ e. IsLive session.settings.log_bytes session.greatest (listed_in session) e.1) es) (sym gone)
-            (all_remove (λ x. IsLive session.settings.log_bytes session.greatest (listed_in session) x) test (jobs_of session) sound.memory.jobs);
+        jobs = subst (λ (es : Live). AllByRecursion (λ e. IsLive session.greatest (listed_in session) e.1) es) (sym gone) (all_remove (λ x. IsLive session.greatest (listed_in session) x) test (jobs_of session) sound.memory.jobs);
         apart = subst AreApart (sym gone) (apart_remove test (jobs_of session) sound.memory.apart);
       };
       registry = sound.registry;
-      logs = λ tells. subst (λ (es : Live). AllByRecursion (LogOf host) es) (sym gone) (all_remove (λ x. LogStands host x.log) test (jobs_of session) (sound.logs tells));
+      jobs = λ tells. subst (λ (es : Live). AllByRecursion (PlainOf host) es) (sym gone) (all_remove (λ x. StandsForOne host x) test (jobs_of session) (sound.jobs tells));
     } in
-    let stepped : (s : Session) (f : Found s word live) → ends s word ≡ record { session = record s { jobs = remove_entry test s.jobs }; reply = OkReply } = λ s f. ap (λ (o : Option Job). of_live o s (λ j. record { session = record s { jobs = remove_entry test s.jobs }; reply = OkReply })) f.found in
-    worked_by_memory host host session new (λ s. ends s word) result memory (silent_reads (reads_nothing host)) (none_yet host) (sound_refused new new_sound.memory) refl (on_ok result (IsSound host new) new_sound)
+    let stepped : (s : Session) (f : Found host s word live) → ends s word ≡ record { session = record s { jobs = remove_entry test s.jobs }; reply = OkReply } = λ s f. ap (λ (o : Option Job). of_live o s (λ j. record { session = record s { jobs = remove_entry test s.jobs }; reply = OkReply })) f.found in
+    worked_by_memory host host session new (plain (λ s. ends s word)) result memory (silent_reads (reads_nothing host)) (none_yet host) (sound_refused new new_sound.memory) refl (on_ok result (IsSound host new) new_sound)
     (λ s tells stands. subst (λ (t : Step). IfOk result (λ bytes. bytes.items ≡ text t.reply)) (sym (stepped s (found_job host session s word live stands found))) says)
     (λ s tells stands.
     subst (λ (t : Step). OnOk result (Stands host new t.session)) (sym (stepped s (found_job host session s word live stands found)))
     (on_ok result (Stands host new (record s { jobs = remove_entry test s.jobs })) (record {
       registry = stands.registry;
       settled = stands.settled;
-      jobs = subst (λ (es : Live). AllZip JobStands es (remove_entry test s.jobs)) (sym gone) (zip_remove test (jobs_of session) s.jobs stands.jobs);
+      jobs = subst (λ (es : Live). AllZip (EntryStands host) es (remove_entry test s.jobs)) (sym gone) (zip_remove host test (jobs_of session) s.jobs stands.jobs);
       greatest = stands.greatest;
       settings = stands.settings;
     })))

@@ -18,37 +18,38 @@ use Rattle.dfs_registry.specs.Body.{has_name, lists_name}
 use Rattle.dfs_reply.specs.declared.Word.TheVariants as word
 use Rattle.dfs_reply.specs.Text.{text}
 use Rattle.dfs_script.specs.declared.JobWord.{JobWord}
-use Rattle.dfs_session.specs.declared.job.Job.{Job as LiveJob}
+use Rattle.dfs_job.specs.declared.job.Job.{Job as LiveJob}
 use Rattle.dfs_session.specs.declared.session.Session.{Session as LiveSession}
 use Rattle.dfs_session.specs.Files.{publication_of, publications_of, value_on}
 use Rattle.dfs_session.specs.Images.{HoldsEither}
-use Rattle.dfs_session.specs.Job.{Job}
+use Rattle.dfs_job.specs.Job.{Job}
 use Rattle.dfs_session.specs.Selected.{listed_as, is_listed, chosen_in}
 use Rattle.dfs_session.specs.Session.{Session, Step, Registry, Publication, live_job, of_job, of_live, publishes, publishes_for, publishes_anew, refused, published_as, is_published, chosen, is_full, begins, begins_with, begins_unless, word_cmp, is_damaged}
 use Rattle.dfs_session.specs.Sound.{IsSound, jobs_of, listed_in, live_in}
 use Rattle.dfs_session.specs.Stands.{Stands, LeavesValue}
-use Rattle.dfs_session.specs.Worked.{IsWorked}
+use Rattle.dfs_job.specs.declared.settings.Settings.{Settings}
+use Rattle.dfs_session.specs.Worked.{IsShort, IsWorked, Work}
 use Rattle.dfs_session.proofs.Changing.{Found}
 use Rattle.dfs_session.proofs.Faults.{sound_refused, full_by}
 use Rattle.dfs_session.proofs.Images.{images_on, read_images}
 use Rattle.dfs_session.proofs.Jobs.{FoundBoth, both_found, zip_length}
-use Rattle.dfs_session.proofs.Kept.{reads_keep, keep_all, sound_reads, stands_kept}
-use Rattle.dfs_session.proofs.Publishing.{fault_or, handed_cause}
+use Rattle.dfs_session.proofs.Handed.{fault_or, handed_cause}
+use Rattle.dfs_session.proofs.Kept.{sound_reads, stands_read}
 use Rattle.dfs_session.proofs.Values.{stands_value}
 
 -- ---- what the plain session has
 
 pub live_same : (host : HostState) (session : LiveSession) (s : Session) (w : JobWord) → Stands host session s → is_some (live_job s w) ≡ is_some (live_in session w)
-live_same host session s w stands = by (live_in session w) (live_job s w) (both_found (is_at (word_cmp w)) (jobs_of session) s.jobs stands.jobs)
+live_same host session s w stands = by (live_in session w) (live_job s w) (both_found host (is_at (word_cmp w)) (jobs_of session) s.jobs stands.jobs)
   where
-    by : (o : Option LiveJob) (p : Option Job) → FoundBoth o p → is_some p ≡ is_some o
+    by : (o : Option LiveJob) (p : Option Job) → FoundBoth host o p → is_some p ≡ is_some o
     by None None both = refl
     by None (Some j) both = absurd both
     by (Some x) None both = absurd both
     by (Some x) (Some j) both = refl
 
 pub full_same : (host : HostState) (session : LiveSession) (s : Session) → Stands host session s → is_full s ≡ (nat_le 64 (length (jobs_of session)) || nat_le 4294967294 session.greatest)
-full_same host session s stands = λ i. nat_le 64 (zip_length (jobs_of session) s.jobs stands.jobs i) || nat_le 4294967294 (stands.greatest i)
+full_same host session s stands = λ i. nat_le 64 (zip_length host (jobs_of session) s.jobs stands.jobs i) || nat_le 4294967294 (stands.greatest i)
 
 published_listed : (files : ℕ → List ℕ) (ls : List Listed) (name : SnapName) → published_as (publications_of files ls) name ≡ option_map (publication_of files) (listed_as ls name)
 published_listed files [] name = refl
@@ -105,43 +106,41 @@ module _ (host : HostState) (session : LiveSession) (s : Session) (w : JobWord) 
 
 -- ---- calls that only read, and then a line's work
 
-pub after_reads : (before mid after : HostState) (session new : LiveSession) (does did : Session → Step) (result : Result (Vec ℕ) Fault) → IsSound before session → OnlyReads before mid → NoFault before mid
-    → ((s : Session) → IsTrue before.tells → Stands before session s → does s ≡ did s) → IsWorked did mid after session new result → IsWorked does before after session new result
-after_reads before mid after session new does did result sound only none same worked =
-    let stands_mid : (s : Session) → IsTrue before.tells → Stands before session s → Stands mid session s = λ s tells stands. stands_kept before mid session s (keep_all before mid (listed_in session) (reads_keep only tells)) stands in
+pub after_reads : (before mid after : HostState) (session new : LiveSession) (does did : Work) (result : Result (Vec ℕ) Fault) → IsSound before session → OnlyReads before mid → NoFault before mid
+    → ((s : Session) → IsTrue before.tells → Stands before session s → does.step s ≡ did.step s) → ((s : Session) → does.job s ≡ did.job s) → ((t : Settings) → does.settings t ≡ did.settings t) → IsWorked did mid after session new result
+    → IsWorked does before after session new result
+after_reads before mid after session new does did result sound only none same job settings worked =
+    let stands_mid : (s : Session) → IsTrue before.tells → Stands before session s → Stands mid session s = λ s tells stands. stands_read before mid session s only tells stands in
     record {
       sound = worked.sound;
-      settings = worked.settings;
+      settings = subst (λ (t : Settings). OnOk result (new.settings ≡ t)) (sym (settings session.settings)) worked.settings;
       reply = λ s tells stands. subst (λ (t : Step). IfOk result (λ bytes. bytes.items ≡ text t.reply)) (sym (same s tells stands)) (worked.reply s (only.tells ∙ tells) (stands_mid s tells stands));
       stands = λ s tells stands. subst (λ (t : Step). OnOk result (Stands after new t.session)) (sym (same s tells stands)) (worked.stands s (only.tells ∙ tells) (stands_mid s tells stands));
       value = λ s tells stands. subst (λ (t : Step). LeavesValue result s.registry t.session.registry (value_on after)) (sym (same s tells stands)) (worked.value s (only.tells ∙ tells) (stands_mid s tells stands));
       images = λ s tells stands.
-          images_on before mid after s.registry (does s).session.registry (read_images before mid session s (does s).session.registry tells sound stands only)
+          images_on before mid after s.registry (does.step s).session.registry (read_images before mid session s (does.step s).session.registry tells sound stands only)
           (subst (λ (t : Step). LeavesOnly (HoldsEither s.registry t.session.registry) mid after) (sym (same s tells stands)) (worked.images s (only.tells ∙ tells) (stands_mid s tells stands)));
       silent = silent_on (silent_reads only) worked.silent;
       cause = cause_of_last none worked.cause result (λ fault is. is) (λ is. is);
       full = worked.full;
-      never_full = worked.never_full;
-      never_changed = worked.never_changed;
+      short = λ s tells stands is. subst IsShort (sym (job s)) (worked.short s (only.tells ∙ tells) (stands_mid s tells stands) is);
     }
 
 -- calls that only read, the last of which failed
-pub read_fault_worked : {T : Type 0} (before after : HostState) (session : LiveSession) (does : Session → Step) (fault : Fault) → IsSound before session → OnlyReads before after → HasFaultCause {T = T} before after (Err fault)
-    → (fault ≡ LogFull → ⊥) → ((file at : ℕ) → fault ≡ Changed file at → ⊥) → IsWorked does before after session session (Err fault)
-read_fault_worked {T} before after session does fault sound only cause full never = record {
+pub read_fault_worked : {T : Type 0} (before after : HostState) (session : LiveSession) (work : Work) (fault : Fault) → IsSound before session → OnlyReads before after → HasFaultCause {T = T} before after (Err fault)
+    → (fault ≡ LogFull → ⊥) → IsWorked work before after session session (Err fault)
+read_fault_worked {T} before after session work fault sound only cause full = record {
   sound = tt;
   settings = tt;
   reply = λ s tells stands. tt;
   stands = λ s tells stands. tt;
   value = λ s tells stands.
-      leaves fault s.registry (does s).session.registry
-      (stands_value after session s (only.tells ∙ tells) (sound_reads before after session only sound) (stands_kept before after session s (keep_all before after (listed_in session) (reads_keep only tells)) stands));
-  images = λ s tells stands. read_images before after session s (does s).session.registry tells sound stands only;
+      leaves fault s.registry (work.step s).session.registry (stands_value after session s (only.tells ∙ tells) (sound_reads before after session only sound) (stands_read before after session s only tells stands));
+  images = λ s tells stands. read_images before after session s (work.step s).session.registry tells sound stands only;
   silent = silent_reads only;
   cause = handed_cause fault (none_yet before) cause;
   full = full_by (Err fault) session (λ is. full (ap fault_or is)) (sound_refused session sound.memory);
-  never_full = λ is. absurd (full (ap fault_or is));
-  never_changed = λ file at is. never file at (ap fault_or is);
+  short = λ s tells stands is. absurd (full (ap fault_or is));
 }
   where
     leaves : (f : Fault) (a b : Registry) → value_on after ≡ Some a → LeavesValue {T = Vec ℕ} (Err f) a b (value_on after)
@@ -158,7 +157,7 @@ publication_decided s w j name taken full = if taken then refused s word.Taken e
 publications_length : (files : ℕ → List ℕ) (ls : List Listed) → length (publications_of files ls) ≡ length ls
 publications_length files ls = length-map ls (publication_of files)
 
-pub publishes_as : (host : HostState) (session : LiveSession) (s : Session) (w : JobWord) (live : LiveJob) (name : SnapName) → Stands host session s → (f : Found s w live) (taken full : Bool) → taken ≡ is_listed (listed_in session) name
+pub publishes_as : (host : HostState) (session : LiveSession) (s : Session) (w : JobWord) (live : LiveJob) (name : SnapName) → Stands host session s → (f : Found host s w live) (taken full : Bool) → taken ≡ is_listed (listed_in session) name
     → full ≡ nat_le 4096 (length (listed_in session)) → publishes_for s w name ≡ publication_decided s w f.plain name taken full
 publishes_as host session s w live name stands f taken full is_taken is_full_so =
     let listed : is_published s.registry name ≡ taken = ap (λ (r : Registry). is_published r name) stands.registry ∙ is_published_same (bytes_of host) (listed_in session) name ∙ sym is_taken in
@@ -166,7 +165,7 @@ publishes_as host session s w live name stands f taken full is_taken is_full_so 
     ap (λ (o : Option Job). of_live o s (λ j. publishes s w j name)) f.found ∙ (λ i. publication_decided s w f.plain name (listed i) (many i))
 
 -- the publication of a live job under a new name
-pub publishes_as_anew : (host : HostState) (session : LiveSession) (s : Session) (w : JobWord) (live : LiveJob) (name : SnapName) → Stands host session s → Found s w live → false ≡ is_listed (listed_in session) name
+pub publishes_as_anew : (host : HostState) (session : LiveSession) (s : Session) (w : JobWord) (live : LiveJob) (name : SnapName) → Stands host session s → Found host s w live → false ≡ is_listed (listed_in session) name
     → false ≡ nat_le 4096 (length (listed_in session)) → publishes_for s w name ≡ of_job s w (λ j. publishes_anew s w j name)
 publishes_as_anew host session s w live name stands f is_taken is_full_so =
     publishes_as host session s w live name stands f false false is_taken is_full_so ∙ sym (ap (λ (o : Option Job). of_live o s (λ j. publishes_anew s w j name)) f.found)

@@ -7,22 +7,22 @@ use Rattle.std.specs.List.{AllByRecursion, list_any}
 use Rattle.std.proofs.lemmas.Bool.{or_from}
 use Rattle.dfs_registry.specs.declared.listed.Listed.{Listed}
 use Rattle.dfs_script.specs.declared.JobWord.{JobWord}
-use Rattle.dfs_session.specs.declared.job.Job.{Job as LiveJob}
+use Rattle.dfs_job.specs.declared.job.Job.{Job as LiveJob}
 use Rattle.dfs_session.specs.declared.session.Session.{Session as LiveSession}
 use Rattle.dfs_session.specs.Sound.{IsLive, IsSoundInMemory, jobs_of, listed_in}
 use Rattle.dfs_session.specs.Worked.{has_refused}
 
-pub unrefused : (es : List (JobWord × LiveJob)) → AllByRecursion (λ e. e.1.log.refused ≡ 0) es → list_any (λ e. nat_lt 0 e.1.log.refused) es ≡ false
+pub unrefused : (es : List (JobWord × LiveJob)) → AllByRecursion (λ e. e.1.layers.log.refused ≡ 0) es → list_any (λ e. nat_lt 0 e.1.layers.log.refused) es ≡ false
 unrefused [] all = refl
 unrefused (e ∷ es) all = or_from _ _ (ap (λ (n : ℕ). nat_lt 0 n) all.0) (unrefused es all.1)
 
 -- no live job has refused a piece
-pub each_unrefused : (log_bytes greatest : ℕ) (listed : List Listed) (es : List (JobWord × LiveJob)) → AllByRecursion (λ e. IsLive log_bytes greatest listed e.1) es → AllByRecursion (λ e. e.1.log.refused ≡ 0) es
-each_unrefused log_bytes greatest listed [] all = tt
-each_unrefused log_bytes greatest listed (e ∷ es) all = (all.0.sound.log.none_refused all.0.sound.live, each_unrefused log_bytes greatest listed es all.1)
+pub each_unrefused : (greatest : ℕ) (listed : List Listed) (es : List (JobWord × LiveJob)) → AllByRecursion (λ e. IsLive greatest listed e.1) es → AllByRecursion (λ e. e.1.layers.log.refused ≡ 0) es
+each_unrefused greatest listed [] all = tt
+each_unrefused greatest listed (e ∷ es) all = (all.0.fit.layers.none_refused, each_unrefused greatest listed es all.1)
 
 pub sound_refused : (session : LiveSession) → IsSoundInMemory session → has_refused session ≡ false
-sound_refused session sound = unrefused (jobs_of session) (each_unrefused session.settings.log_bytes session.greatest (listed_in session) (jobs_of session) sound.jobs)
+sound_refused session sound = unrefused (jobs_of session) (each_unrefused session.greatest (listed_in session) (jobs_of session) sound.jobs)
 
 abbrev IsNo : Bool → Type 0
 IsNo true = ⊥

@@ -9,11 +9,13 @@ use Rattle.std.specs.Ordering.{match_ordering}
 use Rattle.std.specs.declared.cmp.Ordering.{Ordering}
 use Rattle.std.specs.declared.cmp.Ordering.TheVariants.{Less, Equal, Greater}
 use Rattle.dfs_script.specs.declared.JobWord.{JobWord}
-use Rattle.dfs_session.specs.declared.job.Job.{Job as LiveJob}
-use Rattle.dfs_session.specs.Job.{Job}
+use Rattle.dfs_job.specs.declared.job.Job.{Job as LiveJob}
+use Rattle.dfs_host.specs.Host.{HostState}
+use Rattle.dfs_job.specs.Job.{Job}
+use Rattle.dfs_job.specs.Stands.{JobStands}
 use Rattle.dfs_session.specs.Session.{word_cmp}
 use Rattle.dfs_session.specs.Sound.{number_of, AreApart}
-use Rattle.dfs_session.specs.Stands.{IsJob, JobStands}
+use Rattle.dfs_session.specs.Stands.{EntryStands}
 
 abbrev pub Live : Type 0
 Live = List (JobWord × LiveJob)
@@ -25,7 +27,7 @@ abbrev job_or : LiveJob → Option LiveJob → LiveJob
 job_or job None = job
 job_or job (Some other) = other
 
-same_job : (x y : LiveJob) → Some x ≡ Some y → x ≡ y
+pub same_job : (x y : LiveJob) → Some x ≡ Some y → x ≡ y
 same_job x y is = ap (job_or x) is
 
 -- ---- what is so of each job
@@ -119,71 +121,60 @@ any_behind : (b c : Bool) → c ≡ true → (b || c) ≡ true
 any_behind true c is = refl
 any_behind false c is = is
 
-pub any_set : (test : JobWord → Bool) (es : Live) (old x : LiveJob) → lookup test es ≡ Some old → nat_lt 0 x.log.refused ≡ true → list_any (λ e. nat_lt 0 e.1.log.refused) (set_value test es x) ≡ true
+pub any_set : (test : JobWord → Bool) (es : Live) (old x : LiveJob) → lookup test es ≡ Some old → nat_lt 0 x.layers.log.refused ≡ true → list_any (λ e. nat_lt 0 e.1.layers.log.refused) (set_value test es x) ≡ true
 any_set test [] old x is refused = absurd (none-some old is)
-any_set test (e ∷ es) old x is refused = by (test e.0) (λ later. any_behind (nat_lt 0 e.1.log.refused) _ (any_set test es old x later refused)) is
+any_set test (e ∷ es) old x is refused = by (test e.0) (λ later. any_behind (nat_lt 0 e.1.layers.log.refused) _ (any_set test es old x later refused)) is
   where
-    by : (b : Bool) → (lookup test es ≡ Some old → (nat_lt 0 e.1.log.refused || list_any (λ f. nat_lt 0 f.1.log.refused) (set_value test es x)) ≡ true) → cond b (Some e.1) (lookup test es) ≡ Some old → list_any (λ f. nat_lt 0 f.1.log.refused) (cond b ((e.0, x) ∷ es) (e ∷ set_value test es x)) ≡ true
-    by true rest first = ap (λ (b : Bool). b || list_any (λ f. nat_lt 0 f.1.log.refused) es) refused
+    by : (b : Bool) → (lookup test es ≡ Some old → (nat_lt 0 e.1.layers.log.refused || list_any (λ f. nat_lt 0 f.1.layers.log.refused) (set_value test es x)) ≡ true) → cond b (Some e.1) (lookup test es) ≡ Some old → list_any (λ f. nat_lt 0 f.1.layers.log.refused) (cond b ((e.0, x) ∷ es) (e ∷ set_value test es x)) ≡ true
+    by true rest first = ap (λ (b : Bool). b || list_any (λ f. nat_lt 0 f.1.layers.log.refused) es) refused
     by false rest later = rest later
 
 -- ---- live jobs and plain ones
 
-abbrev pub FoundBoth : Option LiveJob → Option Job → Type 0
-FoundBoth None None = Unit {0}
-FoundBoth None (Some j) = ⊥
-FoundBoth (Some x) None = ⊥
-FoundBoth (Some x) (Some j) = IsJob x j
+module _ (host : HostState) where
+  abbrev pub FoundBoth : Option LiveJob → Option Job → Type 0
+  FoundBoth None None = Unit {0}
+  FoundBoth None (Some j) = ⊥
+  FoundBoth (Some x) None = ⊥
+  FoundBoth (Some x) (Some j) = JobStands host x j
 
-pub both_found : (test : JobWord → Bool) (es : Live) (fs : Plain) → AllZip JobStands es fs → FoundBoth (lookup test es) (lookup test fs)
-both_found test [] [] zip = tt
-both_found test [] (f ∷ fs) zip = absurd zip
-both_found test (e ∷ es) [] zip = absurd zip
-both_found test (e ∷ es) (f ∷ fs) zip =
-    subst (λ (w : JobWord). FoundBoth (lookup test (e ∷ es)) (cond (test w) (Some f.1) (lookup test fs))) (sym zip.0.word) (by (test e.0) (both_found test es fs zip.1))
-  where
-    by : (b : Bool) → FoundBoth (lookup test es) (lookup test fs) → FoundBoth (cond b (Some e.1) (lookup test es)) (cond b (Some f.1) (lookup test fs))
-    by true rest = zip.0.job
-    by false rest = rest
+  pub both_found : (test : JobWord → Bool) (es : Live) (fs : Plain) → AllZip (EntryStands host) es fs → FoundBoth (lookup test es) (lookup test fs)
+  both_found test [] [] zip = tt
+  both_found test [] (f ∷ fs) zip = absurd zip
+  both_found test (e ∷ es) [] zip = absurd zip
+  both_found test (e ∷ es) (f ∷ fs) zip = subst (λ (w : JobWord). FoundBoth (lookup test (e ∷ es)) (cond (test w) (Some f.1) (lookup test fs))) (sym zip.0.word) (by (test e.0) (both_found test es fs zip.1))
+    where
+      by : (b : Bool) → FoundBoth (lookup test es) (lookup test fs) → FoundBoth (cond b (Some e.1) (lookup test es)) (cond b (Some f.1) (lookup test fs))
+      by true rest = zip.0.job
+      by false rest = rest
 
-pub zip_set : (test : JobWord → Bool) (es : Live) (fs : Plain) (x : LiveJob) (j : Job) → AllZip JobStands es fs → IsJob x j → AllZip JobStands (set_value test es x) (set_value test fs j)
-zip_set test [] [] x j zip is = tt
-zip_set test [] (f ∷ fs) x j zip is = absurd zip
-zip_set test (e ∷ es) [] x j zip is = absurd zip
-zip_set test (e ∷ es) (f ∷ fs) x j zip is =
-    subst (λ (w : JobWord). AllZip JobStands (set_value test (e ∷ es) x) (cond (test w) ((f.0, j) ∷ fs) (f ∷ set_value test fs j))) (sym zip.0.word) (by (test e.0) (zip_set test es fs x j zip.1 is))
-  where
-    by : (b : Bool) → AllZip JobStands (set_value test es x) (set_value test fs j) → AllZip JobStands (cond b ((e.0, x) ∷ es) (e ∷ set_value test es x)) (cond b ((f.0, j) ∷ fs) (f ∷ set_value test fs j))
-    by true rest = (record { word = zip.0.word; job = is }, zip.1)
-    by false rest = (zip.0, rest)
+  pub zip_remove : (test : JobWord → Bool) (es : Live) (fs : Plain) → AllZip (EntryStands host) es fs → AllZip (EntryStands host) (remove_entry test es) (remove_entry test fs)
+  zip_remove test [] [] zip = tt
+  zip_remove test [] (f ∷ fs) zip = absurd zip
+  zip_remove test (e ∷ es) [] zip = absurd zip
+  zip_remove test (e ∷ es) (f ∷ fs) zip =
+      subst (λ (w : JobWord). AllZip (EntryStands host) (remove_entry test (e ∷ es)) (cond (test w) fs (f ∷ remove_entry test fs))) (sym zip.0.word) (by (test e.0) (zip_remove test es fs zip.1))
+    where
+      by : (b : Bool) → AllZip (EntryStands host) (remove_entry test es) (remove_entry test fs) → AllZip (EntryStands host) (cond b es (e ∷ remove_entry test es)) (cond b fs (f ∷ remove_entry test fs))
+      by true rest = zip.1
+      by false rest = (zip.0, rest)
 
-pub zip_remove : (test : JobWord → Bool) (es : Live) (fs : Plain) → AllZip JobStands es fs → AllZip JobStands (remove_entry test es) (remove_entry test fs)
-zip_remove test [] [] zip = tt
-zip_remove test [] (f ∷ fs) zip = absurd zip
-zip_remove test (e ∷ es) [] zip = absurd zip
-zip_remove test (e ∷ es) (f ∷ fs) zip =
-    subst (λ (w : JobWord). AllZip JobStands (remove_entry test (e ∷ es)) (cond (test w) fs (f ∷ remove_entry test fs))) (sym zip.0.word) (by (test e.0) (zip_remove test es fs zip.1))
-  where
-    by : (b : Bool) → AllZip JobStands (remove_entry test es) (remove_entry test fs) → AllZip JobStands (cond b es (e ∷ remove_entry test es)) (cond b fs (f ∷ remove_entry test fs))
-    by true rest = zip.1
-    by false rest = (zip.0, rest)
+  pub zip_insert : (es : Live) (fs : Plain) (word : JobWord) (x : LiveJob) (j : Job) → AllZip (EntryStands host) es fs → JobStands host x j → AllZip (EntryStands host) (insert_entry word_cmp es word x) (insert_entry word_cmp fs word j)
+  zip_insert [] [] word x j zip is = (record { word = refl; job = is }, tt)
+  zip_insert [] (f ∷ fs) word x j zip is = absurd zip
+  zip_insert (e ∷ es) [] word x j zip is = absurd zip
+  zip_insert (e ∷ es) (f ∷ fs) word x j zip is =
+      subst (λ (w : JobWord). AllZip (EntryStands host) (insert_entry word_cmp (e ∷ es) word x) (match_ordering (word_cmp word w) ((word, j) ∷ f ∷ fs) ((w, j) ∷ fs) (f ∷ insert_entry word_cmp fs word j))) (sym zip.0.word)
+      (by (word_cmp word e.0) (zip_insert es fs word x j zip.1 is))
+    where
+      by : (o : Ordering) → AllZip (EntryStands host) (insert_entry word_cmp es word x) (insert_entry word_cmp fs word j)
+          → AllZip (EntryStands host) (match_ordering o ((word, x) ∷ e ∷ es) ((e.0, x) ∷ es) (e ∷ insert_entry word_cmp es word x)) (match_ordering o ((word, j) ∷ f ∷ fs) ((e.0, j) ∷ fs) (f ∷ insert_entry word_cmp fs word j))
+      by Less rest = (record { word = refl; job = is }, zip)
+      by Equal rest = (record { word = refl; job = is }, zip.1)
+      by Greater rest = (zip.0, rest)
 
-pub zip_insert : (es : Live) (fs : Plain) (word : JobWord) (x : LiveJob) (j : Job) → AllZip JobStands es fs → IsJob x j → AllZip JobStands (insert_entry word_cmp es word x) (insert_entry word_cmp fs word j)
-zip_insert [] [] word x j zip is = (record { word = refl; job = is }, tt)
-zip_insert [] (f ∷ fs) word x j zip is = absurd zip
-zip_insert (e ∷ es) [] word x j zip is = absurd zip
-zip_insert (e ∷ es) (f ∷ fs) word x j zip is =
-    subst (λ (w : JobWord). AllZip JobStands (insert_entry word_cmp (e ∷ es) word x) (match_ordering (word_cmp word w) ((word, j) ∷ f ∷ fs) ((f.0, j) ∷ fs) (f ∷ insert_entry word_cmp fs word j))) (sym zip.0.word)
-    (by (word_cmp word e.0) (zip_insert es fs word x j zip.1 is))
-  where
-    by : (o : Ordering) → AllZip JobStands (insert_entry word_cmp es word x) (insert_entry word_cmp fs word j)
-        → AllZip JobStands (match_ordering o ((word, x) ∷ e ∷ es) ((e.0, x) ∷ es) (e ∷ insert_entry word_cmp es word x)) (match_ordering o ((word, j) ∷ f ∷ fs) ((f.0, j) ∷ fs) (f ∷ insert_entry word_cmp fs word j))
-    by Less rest = (record { word = refl; job = is }, zip)
-    by Equal rest = (record { word = zip.0.word; job = is }, zip.1)
-    by Greater rest = (zip.0, rest)
-
-pub zip_length : (es : Live) (fs : Plain) → AllZip JobStands es fs → length fs ≡ length es
-zip_length [] [] zip = refl
-zip_length [] (f ∷ fs) zip = absurd zip
-zip_length (e ∷ es) [] zip = absurd zip
-zip_length (e ∷ es) (f ∷ fs) zip = ap suc (zip_length es fs zip.1)
+  pub zip_length : (es : Live) (fs : Plain) → AllZip (EntryStands host) es fs → length fs ≡ length es
+  zip_length [] [] zip = refl
+  zip_length [] (f ∷ fs) zip = absurd zip
+  zip_length (e ∷ es) [] zip = absurd zip
+  zip_length (e ∷ es) (f ∷ fs) zip = ap suc (zip_length es fs zip.1)

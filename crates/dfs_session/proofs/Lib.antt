@@ -1,5 +1,4 @@
 mod Lists
-mod Operations
 mod Numbered
 mod Values
 mod Images
@@ -7,6 +6,7 @@ mod Opening
 mod Faults
 mod Jobs
 mod Kept
+mod Handed
 mod Working
 mod Changing
 mod Selecting

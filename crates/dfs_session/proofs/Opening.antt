@@ -11,14 +11,14 @@ use Rattle.dfs_registry.specs.Reading.{registry as reading}
 use Rattle.dfs_registry.specs.Standing.{RegistryStands}
 use Rattle.dfs_registry.proofs.Standing.{standing_list}
 use Rattle.dfs_script.specs.declared.JobWord.{JobWord}
-use Rattle.dfs_session.specs.declared.job.Job.{Job as LiveJob}
+use Rattle.dfs_job.specs.declared.job.Job.{Job as LiveJob}
 use Rattle.dfs_session.specs.declared.session.Session.{Session as LiveSession}
-use Rattle.dfs_session.specs.declared.settings.Settings.{Settings}
+use Rattle.dfs_job.specs.declared.settings.Settings.{Settings}
 use Rattle.dfs_session.specs.Files.{publications_of, value_on, value_read}
 use Rattle.dfs_session.specs.Images.{Holds}
 use Rattle.dfs_session.specs.Session.{Registry, greatest_published, opened_with}
 use Rattle.dfs_session.specs.Sound.{jobs_of, listed_in}
-use Rattle.dfs_session.specs.Stands.{Stands, JobStands, LogIsSettled}
+use Rattle.dfs_session.specs.Stands.{EntryStands, Stands, LogIsSettled}
 use Rattle.dfs_session.proofs.Numbered.{HasFile, AreNumbered, registry_numbered}
 use Rattle.dfs_session.proofs.Values.{same_value, listed_value, same_reading}
 
@@ -59,7 +59,7 @@ opened_stands old new session settings registry stands only sound settled was no
     record {
       registry = is;
       settled = still_settled old new (listed_in session) only.others settled (subst AreNumbered reads (registry_numbered (bytes_of new 0)));
-      jobs = subst (λ (es : List (JobWord × LiveJob)). AllZip JobStands es []) (sym none) tt;
+      jobs = subst (λ (es : List (JobWord × LiveJob)). AllZip (EntryStands new) es []) (sym none) tt;
       greatest = ap greatest_published is ∙ greatest_same (bytes_of new) (listed_in session) ∙ sym greatest;
       settings = sym same;
     }

@@ -13,19 +13,19 @@ use Rattle.dfs_host.proofs.Moments.{silent_reads, reads_nothing}
 use Rattle.dfs_reply.specs.declared.Reply.{Reply}
 use Rattle.dfs_reply.specs.Text.{text}
 use Rattle.dfs_script.specs.declared.JobWord.{JobWord}
-use Rattle.dfs_session.specs.declared.job.Job.{Job as LiveJob}
+use Rattle.dfs_job.specs.declared.job.Job.{Job as LiveJob}
 use Rattle.dfs_session.specs.declared.session.Session.{Session as LiveSession}
 use Rattle.dfs_session.specs.Files.{value_on}
 use Rattle.dfs_session.specs.Images.{HoldsEither}
 use Rattle.dfs_session.specs.Session.{Session, Step, Registry, stays}
-use Rattle.dfs_session.specs.Sound.{IsSound, IsLive, AreApart, LogOf, listed_in}
-use Rattle.dfs_session.specs.Stands.{Stands, JobStands, LeavesValue}
-use Rattle.dfs_session.specs.Worked.{IsWorked, has_refused}
+use Rattle.dfs_session.specs.Sound.{IsSound, IsLive, AreApart, PlainOf, listed_in}
+use Rattle.dfs_session.specs.Stands.{EntryStands, Stands, LeavesValue}
+use Rattle.dfs_session.specs.Worked.{IsWorked, Work, has_refused}
 use Rattle.dfs_session.proofs.Values.{stands_value}
 use Rattle.dfs_session.proofs.Images.{read_images}
 use Rattle.dfs_session.proofs.Jobs.{Live}
 use Rattle.dfs_session.proofs.Faults.{sound_refused, full_by}
-use Rattle.dfs_session.proofs.Kept.{reads_keep, keep_all, sound_reads, stands_kept}
+use Rattle.dfs_session.proofs.Kept.{sound_reads, stands_read}
 
 abbrev IsMemory : Fault → Type 0
 IsMemory NoMemory = Unit {0}
@@ -66,28 +66,27 @@ leaves_value (Err LogFull) before after files memory ok same = same
 leaves_value (Err (Changed file at)) before after files memory ok same = same
 
 -- A line that leaves the registry, and meets no fault but want of memory.
-pub worked_by_memory : (before after : HostState) (old new : LiveSession) (does : Session → Step) (result : Result (Vec ℕ) Fault) → OnlyMemory result → SaysNothing before after → NoFault before after
-    → has_refused new ≡ false → new.settings ≡ old.settings → OnOk result (IsSound after new)
-    → ((s : Session) → IsTrue before.tells → Stands before old s → IfOk result (λ bytes. bytes.items ≡ text (does s).reply))
-    → ((s : Session) → IsTrue before.tells → Stands before old s → OnOk result (Stands after new (does s).session))
+pub worked_by_memory : (before after : HostState) (old new : LiveSession) (work : Work) (result : Result (Vec ℕ) Fault) → OnlyMemory result → SaysNothing before after → NoFault before after
+    → has_refused new ≡ false → new.settings ≡ work.settings old.settings → OnOk result (IsSound after new)
+    → ((s : Session) → IsTrue before.tells → Stands before old s → IfOk result (λ bytes. bytes.items ≡ text (work.step s).reply))
+    → ((s : Session) → IsTrue before.tells → Stands before old s → OnOk result (Stands after new (work.step s).session))
     → ((s : Session) → IsTrue before.tells → Stands before old s → value_on after ≡ Some s.registry)
-    → ((s : Session) → IsTrue before.tells → Stands before old s → (does s).session.registry ≡ s.registry)
-    → ((s : Session) → IsTrue before.tells → Stands before old s → LeavesOnly (HoldsEither s.registry (does s).session.registry) before after)
-    → IsWorked does before after old new result
-worked_by_memory before after old new does result memory silent none refused settings sound reply stands value same images = record {
+    → ((s : Session) → IsTrue before.tells → Stands before old s → (work.step s).session.registry ≡ s.registry)
+    → ((s : Session) → IsTrue before.tells → Stands before old s → LeavesOnly (HoldsEither s.registry (work.step s).session.registry) before after)
+    → IsWorked work before after old new result
+worked_by_memory before after old new work result memory silent none refused settings sound reply stands value same images = record {
   sound = sound;
-  settings = on_ok result (new.settings ≡ old.settings) settings;
+  settings = on_ok result (new.settings ≡ work.settings old.settings) settings;
   reply = reply;
   stands = stands;
   value = λ s tells stood.
       let is = value s tells stood in
-      leaves_value result s.registry (does s).session.registry (value_on after) memory (on_ok result (value_on after ≡ Some (does s).session.registry) (is ∙ ap Some (sym (same s tells stood)))) is;
+      leaves_value result s.registry (work.step s).session.registry (value_on after) memory (on_ok result (value_on after ≡ Some (work.step s).session.registry) (is ∙ ap Some (sym (same s tells stood)))) is;
   images = images;
   silent = silent;
   cause = memory_cause result none memory;
   full = full_by result new (λ is_full. it_is_memory result LogFull memory is_full) refused;
-  never_full = λ is_full. absurd (it_is_memory result LogFull memory is_full);
-  never_changed = λ file at is_changed. it_is_memory result (Changed file at) memory is_changed;
+  short = λ s tells stood is_full. absurd (it_is_memory result LogFull memory is_full);
 }
 
 abbrev Jobs : Type 0
@@ -102,40 +101,40 @@ same_sound host session jobs same sound = record {
     settings = sound.memory.settings;
     greatest = sound.memory.greatest;
     listed = sound.memory.listed;
-    jobs = subst (λ (es : Live). AllByRecursion (λ e. IsLive session.settings.log_bytes session.greatest (listed_in session) e.1) es) (sym same) sound.memory.jobs;
+    jobs = subst (λ (es : Live). AllByRecursion (λ e. IsLive session.greatest (listed_in session) e.1) es) (sym same) sound.memory.jobs;
     apart = subst AreApart (sym same) sound.memory.apart;
   };
   registry = sound.registry;
-  logs = λ tells. subst (λ (es : Live). AllByRecursion (LogOf host) es) (sym same) (sound.logs tells);
+  jobs = λ tells. subst (λ (es : Live). AllByRecursion (PlainOf host) es) (sym same) (sound.jobs tells);
 }
 
 same_stands : (host : HostState) (session : LiveSession) (jobs : Jobs) (s : Session) → jobs.entries ≡ session.jobs.entries → Stands host session s → Stands host (record session { jobs = jobs }) s
 same_stands host session jobs s same stands = record {
   registry = stands.registry;
   settled = stands.settled;
-  jobs = subst (λ (es : Live). AllZip JobStands es s.jobs) (sym same) stands.jobs;
+  jobs = subst (λ (es : Live). AllZip (EntryStands host) es s.jobs) (sym same) stands.jobs;
   greatest = stands.greatest;
   settings = stands.settings;
 }
 
 -- A line that changes nothing, worked by calls that only read.
-pub stays_worked : (before after : HostState) (session : LiveSession) (jobs : Jobs) (does : Session → Step) (reply : Reply) (result : Result (Vec ℕ) Fault) → jobs.entries ≡ session.jobs.entries
-    → IsSound before session → OnlyReads before after → NoFault before after → ((s : Session) → IsTrue before.tells → Stands before session s → does s ≡ stays s reply)
-    → IfOk result (λ bytes. bytes.items ≡ text reply) → OnlyMemory result → IsWorked does before after session (record session { jobs = jobs }) result
-stays_worked before after session jobs does reply result same sound only none is says memory =
+pub stays_worked : (before after : HostState) (session : LiveSession) (jobs : Jobs) (work : Work) (reply : Reply) (result : Result (Vec ℕ) Fault) → jobs.entries ≡ session.jobs.entries → session.settings ≡ work.settings session.settings
+    → IsSound before session → OnlyReads before after → NoFault before after → ((s : Session) → IsTrue before.tells → Stands before session s → work.step s ≡ stays s reply)
+    → IfOk result (λ bytes. bytes.items ≡ text reply) → OnlyMemory result → IsWorked work before after session (record session { jobs = jobs }) result
+stays_worked before after session jobs work reply result same given sound only none is says memory =
     let now_sound = sound_reads before after session only sound in
     let new : LiveSession = record session { jobs = jobs } in
     let new_sound = same_sound after session jobs same now_sound in
-    let stands : (s : Session) → IsTrue before.tells → Stands before session s → Stands after session s = λ s tells stood. stands_kept before after session s (keep_all before after (listed_in session) (reads_keep only tells)) stood in
-    worked_by_memory before after session new does result memory (silent_reads only) none (sound_refused new new_sound.memory) refl (on_ok result (IsSound after new) new_sound)
+    let stands : (s : Session) → IsTrue before.tells → Stands before session s → Stands after session s = λ s tells stood. stands_read before after session s only tells stood in
+    worked_by_memory before after session new work result memory (silent_reads only) none (sound_refused new new_sound.memory) given (on_ok result (IsSound after new) new_sound)
     (λ s tells stood. subst (λ (t : Step). IfOk result (λ bytes. bytes.items ≡ text t.reply)) (sym (is s tells stood)) says)
     (λ s tells stood. subst (λ (t : Step). OnOk result (Stands after new t.session)) (sym (is s tells stood)) (on_ok result (Stands after new s) (same_stands after session jobs s same (stands s tells stood))))
     (λ s tells stood. stands_value after session s (only.tells ∙ tells) now_sound (stands s tells stood))
     (λ s tells stood. ap (λ (t : Step). t.session.registry) (is s tells stood))
-    (λ s tells stood. read_images before after session s (does s).session.registry tells sound stood only)
+    (λ s tells stood. read_images before after session s (work.step s).session.registry tells sound stood only)
 
 -- the same without a call on the host
-pub stays_in_memory : (host : HostState) (session : LiveSession) (jobs : Jobs) (does : Session → Step) (reply : Reply) (result : Result (Vec ℕ) Fault) → jobs.entries ≡ session.jobs.entries → IsSound host session
-    → ((s : Session) → IsTrue host.tells → Stands host session s → does s ≡ stays s reply) → IfOk result (λ bytes. bytes.items ≡ text reply) → OnlyMemory result
-    → IsWorked does host host session (record session { jobs = jobs }) result
-stays_in_memory host session jobs does reply result same sound is says memory = stays_worked host host session jobs does reply result same sound (reads_nothing host) (none_yet host) is says memory
+pub stays_in_memory : (host : HostState) (session : LiveSession) (jobs : Jobs) (work : Work) (reply : Reply) (result : Result (Vec ℕ) Fault) → jobs.entries ≡ session.jobs.entries → session.settings ≡ work.settings session.settings → IsSound host session
+    → ((s : Session) → IsTrue host.tells → Stands host session s → work.step s ≡ stays s reply) → IfOk result (λ bytes. bytes.items ≡ text reply) → OnlyMemory result
+    → IsWorked work host host session (record session { jobs = jobs }) result
+stays_in_memory host session jobs work reply result same given sound is says memory = stays_worked host host session jobs work reply result same given sound (reads_nothing host) (none_yet host) is says memory

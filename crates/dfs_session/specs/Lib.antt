@@ -1,8 +1,6 @@
-pub mod Job
 pub mod Session
 pub mod Run
 pub mod Files
-pub mod Own
 pub mod Sound
 pub mod Stands
 pub mod Worked

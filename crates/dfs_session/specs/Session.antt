@@ -16,16 +16,18 @@ use Rattle.dfs_ops.specs.declared.OpReply.TheVariants.{Done as OpDone, Entry as 
 use Rattle.dfs_ops.specs.Op.{Outcome}
 use Rattle.dfs_script.specs.declared.JobWord.{JobWord}
 use Rattle.dfs_script.specs.declared.Line.{Line}
-use Rattle.dfs_script.specs.declared.Line.TheVariants.{Nothing, Snapshots, Begin, Space, Publish, End}
+use Rattle.dfs_script.specs.declared.Line.TheVariants.{Nothing, Set, Snapshots, Begin, Space, Flush, Stats, Publish, End}
+use Rattle.dfs_script.specs.declared.Setting.{Setting}
+use Rattle.dfs_script.specs.declared.Setting.TheVariants as setting
 use Rattle.dfs_script.specs.declared.LineFault.{LineFault}
 use Rattle.dfs_script.specs.declared.LineFault.TheVariants.{Long, Syntax, NoMemory}
 use Rattle.dfs_script.specs.Line.{meaning}
 use Rattle.dfs_reply.specs.declared.Reply.{Reply}
-use Rattle.dfs_reply.specs.declared.Reply.TheVariants.{Nothing as NoReply, Ok as OkReply, Job as JobReply, Stat as StatReply, Listing as ListingReply, Snapshots as SnapshotsReply, Published as PublishedReply, Damaged as DamagedReply, Error}
+use Rattle.dfs_reply.specs.declared.Reply.TheVariants.{Nothing as NoReply, Ok as OkReply, Job as JobReply, Stat as StatReply, Listing as ListingReply, Snapshots as SnapshotsReply, Stats as StatsReply, Published as PublishedReply, Damaged as DamagedReply, Error}
 use Rattle.dfs_reply.specs.declared.Word.{Word}
 use Rattle.dfs_reply.specs.declared.Word.TheVariants as word
-use Rattle.dfs_session.specs.declared.settings.Settings.{Settings}
-use Rattle.dfs_session.specs.Job.{Job, begun, does, after, own_changes}
+use Rattle.dfs_job.specs.declared.settings.Settings.{Settings}
+use Rattle.dfs_job.specs.Job.{Job, begun, does, after, after_flush, key_count, own_changes, run_count}
 
 -- A publication: its name, its job, and its change set, or None where its log is damaged.
 pub record Publication : Type 0 where
@@ -54,6 +56,13 @@ pub record Step : Type 0 where
 
 abbrev pub default_settings : Settings
 default_settings = record { buffer = 1024; cache = 1024; parts = 4; log_bytes = 1099511627776 }
+
+-- the settings with another value of one
+abbrev pub with_setting : Setting → ℕ → Settings → Settings
+with_setting setting.Buffer value t = record t { buffer = value }
+with_setting setting.Cache value t = record t { cache = value }
+with_setting setting.Parts value t = record t { parts = value }
+with_setting setting.LogBytes value t = record t { log_bytes = value }
 
 -- the greatest job of a publication, and 0 where there is none
 abbrev pub greatest_published : Registry → ℕ
@@ -180,6 +189,12 @@ of_job s w f = of_live (live_job s w) s f
 abbrev pub operates_for : Session → JobWord → Op → Step
 operates_for s w op = of_job s w (λ j. operates s w j (does j op))
 
+abbrev pub flushes : Session → JobWord → Step
+flushes s w = of_job s w (λ j. record { session = with_job s w (after_flush j); reply = OkReply })
+
+abbrev pub tells_stats : Session → JobWord → Step
+tells_stats s w = of_job s w (λ j. stays s (StatsReply (run_count j) (key_count j)))
+
 abbrev pub publishes_for : Session → JobWord → SnapName → Step
 publishes_for s w name = of_job s w (λ j. publishes s w j name)
 
@@ -189,12 +204,19 @@ ends s w = of_job s w (λ j. record { session = without_job s w; reply = OkReply
 abbrev pub tells_snapshots : Session → Step
 tells_snapshots s = stays s (SnapshotsReply (map (λ p. (p.name, p.job)) s.registry))
 
+-- jobs that begin later are given another value
+abbrev pub sets : Session → Setting → ℕ → Step
+sets s what value = record { session = record s { settings = with_setting what value s.settings }; reply = OkReply }
+
 -- what a command does
 abbrev pub after_command : Session → Line → Step
 after_command s Nothing = stays s NoReply
+after_command s (Set what value) = sets s what value
 after_command s Snapshots = tells_snapshots s
 after_command s (Begin w names) = begins s w names
 after_command s (Space w op) = operates_for s w op
+after_command s (Flush w) = flushes s w
+after_command s (Stats w) = tells_stats s w
 after_command s (Publish w name) = publishes_for s w name
 after_command s (End w) = ends s w
 

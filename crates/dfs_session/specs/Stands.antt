@@ -7,24 +7,18 @@ use Rattle.dfs_host.specs.declared.fault.Fault.{Fault}
 use Rattle.dfs_host.specs.declared.fault.Fault.TheVariants as fault
 use Rattle.dfs_registry.specs.declared.listed.Listed.{Listed}
 use Rattle.dfs_script.specs.declared.JobWord.{JobWord}
-use Rattle.dfs_session.specs.declared.job.Job.{Job as LiveJob}
+use Rattle.dfs_job.specs.declared.job.Job.{Job as LiveJob}
+use Rattle.dfs_job.specs.Job.{Job}
+use Rattle.dfs_job.specs.Stands.{JobStands}
 use Rattle.dfs_session.specs.declared.session.Session.{Session as LiveSession}
 use Rattle.dfs_session.specs.Files.{publications_of}
-use Rattle.dfs_session.specs.Job.{Job, namespace_of, own_changes}
 use Rattle.dfs_session.specs.Session.{Session, Registry}
 use Rattle.dfs_session.specs.Sound.{jobs_of, listed_in}
 
--- A live job has the numbers of a job, sees what it sees, and has made its changes.
-pub record IsJob (live : LiveJob) (j : Job) : Type 0 where
-  pub ids : j.ids ≡ live.ids
-  pub entries : live.space.entries ≡ namespace_of j
-  pub own : live.space.own ≡ own_changes j
-  pub limit : live.log.limit ≡ j.settings.log_bytes
-
--- under the same word
-pub record JobStands (e : JobWord × LiveJob) (f : JobWord × Job) : Type 0 where
+-- a live job stands for the plain one under the same word
+pub record EntryStands (host : HostState) (e : JobWord × LiveJob) (f : JobWord × Job) : Type 0 where
   pub word : f.0 ≡ e.0
-  pub job : IsJob e.1 f.1
+  pub job : JobStands host e.1 f.1
 
 abbrev pub LogIsSettled : HostState → Listed → Type 0
 LogIsSettled host l = IsSettled (host.disk.files l.job)
@@ -33,7 +27,7 @@ LogIsSettled host l = IsSettled (host.disk.files l.job)
 pub record Stands (host : HostState) (session : LiveSession) (s : Session) : Type 0 where
   pub registry : s.registry ≡ publications_of (bytes_of host) (listed_in session)
   pub settled : AllByRecursion (LogIsSettled host) (listed_in session)
-  pub jobs : AllZip JobStands (jobs_of session) s.jobs
+  pub jobs : AllZip (EntryStands host) (jobs_of session) s.jobs
   pub greatest : s.greatest ≡ session.greatest
   pub settings : s.settings ≡ session.settings
 

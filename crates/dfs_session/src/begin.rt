@@ -2,11 +2,13 @@
 
 use crate::selection::{Selection, select};
 use crate::session::text_of;
-use crate::{Job, Session};
+use crate::Session;
+use dfs_change::Change;
 use dfs_host::{Fault, Host};
+use dfs_job::Job;
 use dfs_reply::{Reply, Word};
 use dfs_script::{JobWord, Names};
-use dfs_space::PlainSpace;
+use std::rc::Rc;
 
 // How many jobs may live at once, and the last number of a job.
 const MOST_LIVE: usize = 64;
@@ -14,17 +16,15 @@ const MOST_LIVE: usize = 64;
 const LAST_JOB: u32 = 4_294_967_294;
 
 impl Session {
-    ghost use Rattle.std.specs.Prelude.{◌≡◌, ◌<◌, ◌+◌, nat_le, ◌||◌, List, [], length, None};
-    ghost use Rattle.std.specs.List.{list_all};
+    ghost use Rattle.std.specs.Prelude.{◌≡◌, ◌<◌, nat_le, ◌||◌, List, length, map, None};
+    ghost use Rattle.std.specs.List.{AllByRecursion, AllZip, list_all};
     ghost use Rattle.dfs_host.specs.Host.{Told};
     ghost use Rattle.dfs_record.specs.Delta.{Delta};
-    ghost use Rattle.dfs_record.specs.Namespace.{replay};
-    ghost use Rattle.dfs_ops.specs.Within.{IsWithin};
-    ghost use Rattle.dfs_session.specs.Job.{first_ids};
+    ghost use Rattle.dfs_job.specs.Stands.{IsSelectable, IsStoredFor};
     ghost use Rattle.dfs_session.specs.Selected.{is_listed};
-    ghost use Rattle.dfs_session.specs.Session.{begins, begins_over, live_job};
-    ghost use Rattle.dfs_session.specs.Sound.{IsSound, listed_in, jobs_of, live_in};
-    ghost use Rattle.dfs_session.specs.Worked.{IsWorked};
+    ghost use Rattle.dfs_session.specs.Session.{begins, begins_over};
+    ghost use Rattle.dfs_session.specs.Sound.{IsListed, IsSound, listed_in, jobs_of, live_in};
+    ghost use Rattle.dfs_session.specs.Worked.{IsWorked, plain};
 
     /// Begins a job over the publications of the names.
     pub(crate) fn begin<H: Host>(
@@ -34,7 +34,7 @@ impl Session {
         names: &Names,
     ) -> Result<Vec<u8>, Fault>
         requires { IsSound (H.state host.old) self.old }
-        ensures { IsWorked (λ s. begins s word names.now) (H.state host.old) (H.state host.new) self.old self.new result }
+        ensures { IsWorked (plain (λ s. begins s word names.now)) (H.state host.old) (H.state host.new) self.old self.new result }
     {
         if self.jobs.contains_key(&word) {
             return text_of(self.alloc, &Reply::Error(Word::LiveJob));
@@ -46,7 +46,7 @@ impl Session {
             return text_of(self.alloc, &Reply::Error(Word::NoSnap));
         }
         match select(self.alloc, host, &self.registry, names)? {
-            Selection::Entries(entries) => self.begin_over(host, word, entries),
+            Selection::Changes(changes) => self.begin_over(host, word, changes),
             Selection::Damaged(name) => text_of(self.alloc, &Reply::Damaged(name)),
         }
     }
@@ -70,24 +70,25 @@ impl Session {
         true
     }
 
-    // Begins a job over the entries that it selected.
+    // Begins a job over the change sets that it selected.
     fn begin_over<H: Host>(
         &mut self,
         host: &mut H,
         word: JobWord,
-        entries: PlainSpace,
+        changes: Vec<Rc<Change>>,
     ) -> Result<Vec<u8>, Fault>
         requires sound { IsSound (H.state host.old) self.old }
-        requires within { IsWithin (first_ids (self.old.greatest + 1)) entries }
+        requires listed { AllByRecursion (IsListed (listed_in self.old)) (map (λ c. c.value) changes.items) }
+        requires selectable { Told (H.state host.old) (AllByRecursion (IsSelectable (H.state host.old)) (map (λ c. c.value) changes.items)) }
         requires last { self.old.greatest < 4294967294 }
         requires absent { live_in self.old word ≡ None }
 
-        ensures { (basis : List Delta) → Told (H.state host.old) (entries ≡ replay basis [])
-            → IsWorked (λ s. begins_over s word basis) (H.state host.old) (H.state host.new) self.old self.new result }
+        ensures { (basis : List Delta) → Told (H.state host.old) (AllZip (IsStoredFor (H.state host.old)) (map (λ c. c.value) changes.items) basis)
+            → IsWorked (plain (λ s. begins_over s word basis)) (H.state host.old) (H.state host.new) self.old self.new result }
     {
         let number = self.greatest + 1;
         let reply = text_of(self.alloc, &Reply::Job(number))?;
-        let job = Job::begin(self.alloc, host, number, entries, self.settings.log_bytes)?;
+        let job = Job::begin(self.alloc, host, number, changes, self.settings)?;
         match self.jobs.insert(word, job) {
             Ok(_) => {
                 self.greatest = number;

@@ -5,12 +5,13 @@ ghost use Rattle.dfs_session.specs.Session.{told as told_by};
 
 use crate::Session;
 use crate::session::text_of;
-use dfs_host::Fault;
+use crate::settings::with_setting;
+use dfs_host::{Fault, Host};
 use dfs_ops::OpReply;
 use dfs_path::Op;
 use dfs_registry::Registry;
 use dfs_reply::{Reply, SnapList, Word};
-use dfs_script::JobWord;
+use dfs_script::{JobWord, Setting};
 use std::alloc::Global;
 
 // The reply that tells an answer.
@@ -51,38 +52,84 @@ fn snapshots(alloc: Global, registry: &Registry) -> Result<SnapList, Fault>
 }
 
 impl Session {
-    ghost use Rattle.std.specs.Prelude.{◌≡◌};
+    ghost use Rattle.std.specs.Prelude.{◌≡◌, IsTrue};
     ghost use Rattle.dfs_path.specs.Op.{IsOp};
-    ghost use Rattle.dfs_session.specs.Session.{tells_snapshots, operates_for, ends};
-    ghost use Rattle.dfs_session.specs.Sound.{IsSoundInMemory};
-    ghost use Rattle.dfs_session.specs.Worked.{IsWorkedInMemory};
+    ghost use Rattle.dfs_script.specs.Settings.{is_in_range};
+    ghost use Rattle.dfs_session.specs.Session.{tells_snapshots, tells_stats, ends};
+    ghost use Rattle.dfs_session.specs.Sound.{IsSound, IsSoundInMemory};
+    ghost use Rattle.dfs_session.specs.Worked.{IsWorked, IsWorkedInMemory, flushing, operating, plain, setting};
+
+    /// Sets what jobs that begin later are given.
+    pub(crate) fn set(&mut self, what: Setting, value: u64) -> Result<Vec<u8>, Fault>
+        requires sound { IsSoundInMemory self.old }
+        requires range { IsTrue (is_in_range what value) }
+        ensures { IsWorkedInMemory (setting what value) self.old self.new result }
+    {
+        self.settings = with_setting(self.settings, what, value);
+        text_of(self.alloc, &Reply::Ok)
+    }
 
     /// Tells the names and jobs of the publications.
     pub(crate) fn tell_snapshots(&self) -> Result<Vec<u8>, Fault>
         requires { IsSoundInMemory self.now }
-        ensures { IsWorkedInMemory tells_snapshots self.now self.now result }
+        ensures { IsWorkedInMemory (plain tells_snapshots) self.now self.now result }
     {
         let list = snapshots(self.alloc, &self.registry)?;
         text_of(self.alloc, &Reply::Snapshots(list))
     }
 
     /// Applies an operation to the namespace of a live job.
-    pub(crate) fn operate(&mut self, word: &JobWord, op: &Op) -> Result<Vec<u8>, Fault>
-        requires sound { IsSoundInMemory self.old }
+    pub(crate) fn operate<H: Host>(
+        &mut self,
+        host: &mut H,
+        word: &JobWord,
+        op: &Op,
+    ) -> Result<Vec<u8>, Fault>
+        requires sound { IsSound (H.state host.old) self.old }
         requires op { IsOp op.now }
-        ensures { IsWorkedInMemory (λ s. operates_for s word.now op.now) self.old self.new result }
+        ensures { IsWorked (operating word.now op.now) (H.state host.old) (H.state host.new) self.old self.new result }
     {
         let Some(job) = self.jobs.get_mut(word) else {
             return text_of(self.alloc, &Reply::Error(Word::NoJob));
         };
-        let answer = job.operate(self.alloc, op)?;
+        let answer = job.op(self.alloc, host, op)?;
         text_of(self.alloc, &told(answer))
+    }
+
+    /// Closes the open layer of a live job.
+    pub(crate) fn flush<H: Host>(&mut self, host: &mut H, word: &JobWord) -> Result<Vec<u8>, Fault>
+        requires { IsSound (H.state host.old) self.old }
+        ensures { IsWorked (flushing word.now) (H.state host.old) (H.state host.new) self.old self.new result }
+    {
+        let Some(job) = self.jobs.get_mut(word) else {
+            return text_of(self.alloc, &Reply::Error(Word::NoJob));
+        };
+        job.flush(self.alloc, host)?;
+        text_of(self.alloc, &Reply::Ok)
+    }
+
+    /// Tells how many closed layers a live job has, and how many keys are in them.
+    pub(crate) fn tell_stats(&self, word: &JobWord) -> Result<Vec<u8>, Fault>
+        requires { IsSoundInMemory self.now }
+        ensures { IsWorkedInMemory (plain (λ s. tells_stats s word.now)) self.now self.now result }
+    {
+        let Some(job) = self.jobs.get(word) else {
+            return text_of(self.alloc, &Reply::Error(Word::NoJob));
+        };
+        let stats = job.stats();
+        text_of(
+            self.alloc,
+            &Reply::Stats {
+                runs: stats.runs,
+                records: stats.records,
+            },
+        )
     }
 
     /// Ends a live job, which publishes nothing.
     pub(crate) fn end(&mut self, word: &JobWord) -> Result<Vec<u8>, Fault>
         requires { IsSoundInMemory self.old }
-        ensures { IsWorkedInMemory (λ s. ends s word.now) self.old self.new result }
+        ensures { IsWorkedInMemory (plain (λ s. ends s word.now)) self.old self.new result }
     {
         if self.jobs.remove(word).is_none() {
             return text_of(self.alloc, &Reply::Error(Word::NoJob));

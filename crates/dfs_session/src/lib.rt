@@ -8,14 +8,9 @@
 
 mod begin;
 mod commands;
-mod job;
 mod publish;
 mod selection;
 mod session;
 mod settings;
-mod space;
 
-pub use job::Job;
 pub use session::Session;
-pub use settings::Settings;
-pub use space::JobSpace;

@@ -13,7 +13,6 @@ ghost use Rattle.dfs_reply.specs.declared.Reply.{Reply as AReply};
 
 use crate::Session;
 use crate::session::text_of;
-use dfs_change::write_changes;
 use dfs_host::{Fault, Host};
 use dfs_record::SnapName;
 use dfs_registry::{Listed, PrepFault, Registry};
@@ -68,9 +67,8 @@ fn list<H: Host>(host: &mut H, registry: &mut Registry, listed: Listed) -> Resul
 impl Session {
     ghost use Rattle.std.specs.Prelude.{◌≡◌, ◌<◌, false, length};
     ghost use Rattle.dfs_registry.specs.Body.{lists_name};
-    ghost use Rattle.dfs_session.specs.Session.{of_job, publishes_for, publishes_anew};
     ghost use Rattle.dfs_session.specs.Sound.{IsSound, listed_in};
-    ghost use Rattle.dfs_session.specs.Worked.{IsWorked};
+    ghost use Rattle.dfs_session.specs.Worked.{IsWorked, publishing, publishing_anew};
 
     /// Publishes the changes of a job, which ends.
     pub(crate) fn publish<H: Host>(
@@ -80,7 +78,7 @@ impl Session {
         name: SnapName,
     ) -> Result<Vec<u8>, Fault>
         requires { IsSound (H.state host.old) self.old }
-        ensures { IsWorked (λ s. publishes_for s word.now name) (H.state host.old) (H.state host.new) self.old self.new result }
+        ensures { IsWorked (publishing word.now name) (H.state host.old) (H.state host.new) self.old self.new result }
     {
         if !self.jobs.contains_key(word) {
             return text_of(self.alloc, &Reply::Error(Word::NoJob));
@@ -105,14 +103,14 @@ impl Session {
         requires anew { lists_name (listed_in self.old) name ≡ false }
         requires few { length (listed_in self.old) < 4096 }
 
-        ensures { IsWorked (λ s. of_job s word.now (λ j. publishes_anew s word.now j name)) (H.state host.old) (H.state host.new) self.old self.new result }
+        ensures { IsWorked (publishing_anew word.now name) (H.state host.old) (H.state host.new) self.old self.new result }
     {
         let alloc = self.alloc;
         let Some(job) = self.jobs.get_mut(word) else {
             return text_of(alloc, &Reply::Error(Word::NoJob));
         };
         let number = job.ids.job;
-        let sealed = write_changes(alloc, host, &mut job.log, &job.space.own)?;
+        let sealed = job.publish_tables(alloc, host)?;
         let reply = published(alloc, &name, sealed.count)?;
         let listed = Listed {
             name,

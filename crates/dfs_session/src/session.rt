@@ -4,7 +4,7 @@ ghost use Rattle.std.specs.Prelude.{◌≡◌, ◌≤◌, IfOk, IfErr, OnOk};
 ghost use Rattle.dfs_registry.specs.Body.{greatest_job};
 ghost use Rattle.dfs_reply.specs.Text.{text};
 
-use crate::{Job, Settings};
+use dfs_job::{Job, Settings};
 use dfs_host::{Fault, Host};
 use dfs_registry::{RegFault, Registry};
 use dfs_reply::{Reply, Word, print};
@@ -60,10 +60,12 @@ impl Session {
     ghost use Rattle.dfs_script.specs.Valid.{IsLine};
     ghost use Rattle.dfs_session.specs.Files.{value_on};
     ghost use Rattle.dfs_session.specs.Images.{Holds, HoldsEither, HoldsNow};
-    ghost use Rattle.dfs_session.specs.Session.{Session as PlainSession, Registry as Publications, opened_with, after_command, step as step_of};
-    ghost use Rattle.dfs_session.specs.Sound.{AreSettings, IsSound};
+    ghost use Rattle.dfs_session.specs.Session.{Session as PlainSession, Registry as Publications, opened_with, step as step_of};
+    ghost use Rattle.dfs_script.specs.Line.{meaning};
+    ghost use Rattle.dfs_session.specs.Sound.{IsSound};
+    ghost use Rattle.dfs_job.specs.Stands.{AreSettings};
     ghost use Rattle.dfs_session.specs.Stands.{Stands, LeavesValue};
-    ghost use Rattle.dfs_session.specs.Worked.{OpensAs, IsWorked, has_refused, roomy};
+    ghost use Rattle.dfs_session.specs.Worked.{OpensAs, IsShort, IsWorked, has_refused, job_by, of_command, of_line, settings_by};
 
     /// Opens the registry of a host. Jobs that begin are given the settings.
     pub fn open<H: Host>(
@@ -109,7 +111,8 @@ impl Session {
         requires { IsSound (H.state host.old) self.old }
 
         ensures sound { OnOk result (IsSound (H.state host.new) self.new) }
-        ensures settings { OnOk result (self.new.settings ≡ self.old.settings) }
+        // The settings change by the lines that say so, on every host.
+        ensures settings { OnOk result (self.new.settings ≡ settings_by self.old.settings (meaning line.now)) }
         ensures reply { (s : PlainSession) → Told (H.state host.old) (Stands (H.state host.old) self.old s → IfOk result (λ reply. reply.items ≡ text (step_of s line.now).reply)) }
         ensures stands { (s : PlainSession) → Told (H.state host.old) (Stands (H.state host.old) self.old s → OnOk result (Stands (H.state host.new) self.new (step_of s line.now).session)) }
         ensures value { (s : PlainSession) → Told (H.state host.old) (Stands (H.state host.old) self.old s
@@ -121,10 +124,10 @@ impl Session {
         ensures durable { (s : PlainSession) → Told (H.state host.old) (Stands (H.state host.old) self.old s → OnOk result (HoldsNow (step_of s line.now).session.registry (H.state host.new))) }
         ensures silent { SaysNothing (H.state host.old) (H.state host.new) }
         ensures cause { HasFaultCause (H.state host.old) (H.state host.new) result }
-        // `LogFull` exactly where the log of a job refused a piece in this line. A log that may have some 1.16 billion bytes never does.
+        // `LogFull` exactly where the log of a job refused a piece in this line, and only where the log of the line's job is too short
+        // for what that job selected and made, this line counted.
         ensures full { IsErrOf result Fault.LogFull ↔ IsTrue (has_refused self.new) }
-        ensures never_full { IsErrOf result Fault.LogFull → self.old.settings.log_bytes < roomy }
-        ensures never_changed { (file at : ℕ) → IsErrOf result (Fault.Changed file at) → ⊥ }
+        ensures short { (s : PlainSession) → Told (H.state host.old) (Stands (H.state host.old) self.old s → IsErrOf result Fault.LogFull → IsShort (job_by s (meaning line.now))) }
         ensures spent { OnErr result (IsTrue self.new.spent) }
     {
         match self.work(host, line) {
@@ -139,7 +142,7 @@ impl Session {
     // Works a line.
     fn work<H: Host>(&mut self, host: &mut H, line: &[u8]) -> Result<Vec<u8>, Fault>
         requires { IsSound (H.state host.old) self.old }
-        ensures { IsWorked (λ s. step_of s line.now) (H.state host.old) (H.state host.new) self.old self.new result }
+        ensures { IsWorked (of_line line.now) (H.state host.old) (H.state host.new) self.old self.new result }
     {
         match read_line(self.alloc, line) {
             Ok(line) => self.obey(host, line),
@@ -153,13 +156,16 @@ impl Session {
     fn obey<H: Host>(&mut self, host: &mut H, line: Line) -> Result<Vec<u8>, Fault>
         requires sound { IsSound (H.state host.old) self.old }
         requires line { IsLine line }
-        ensures { IsWorked (λ s. after_command s line) (H.state host.old) (H.state host.new) self.old self.new result }
+        ensures { IsWorked (of_command line) (H.state host.old) (H.state host.new) self.old self.new result }
     {
         match line {
             Line::Nothing => text_of(self.alloc, &Reply::Nothing),
+            Line::Set { what, value } => self.set(what, value),
             Line::Snapshots => self.tell_snapshots(),
             Line::Begin { job, names } => self.begin(host, job, &names),
-            Line::Space { job, op } => self.operate(&job, &op),
+            Line::Space { job, op } => self.operate(host, &job, &op),
+            Line::Flush { job } => self.flush(host, &job),
+            Line::Stats { job } => self.tell_stats(&job),
             Line::Publish { job, name } => self.publish(host, &job, name),
             Line::End { job } => self.end(&job),
         }

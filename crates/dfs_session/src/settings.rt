@@ -1,22 +1,36 @@
-/// What a job is given when it begins.
-#[derive(Clone, Copy, Debug, PartialEq, Eq)]
-pub struct Settings {
-    /// How many records an open layer has at most: 1 to 65,536.
-    pub buffer: u32,
-    /// How many look-ups are kept: 1 to 65,536.
-    pub cache: u32,
-    /// How many parts a plan has where none are asked for: 1 to 256.
-    pub parts: u16,
-    /// How many bytes a log has at most: 4,096 to 1,099,511,627,776.
-    pub log_bytes: u64,
-}
+//! What jobs are given when they begin.
 
-impl Settings {
-    /// What jobs are given where no line says otherwise.
-    pub const DEFAULT: Settings = Settings {
-        buffer: 1024,
-        cache: 1024,
-        parts: 4,
-        log_bytes: 1_099_511_627_776,
-    };
+ghost use Rattle.std.specs.Prelude.{◌≡◌, IsTrue};
+ghost use Rattle.dfs_job.specs.Stands.{AreSettings};
+ghost use Rattle.dfs_script.specs.Settings.{is_in_range};
+ghost use Rattle.dfs_session.specs.Session.{with_setting as settings_with};
+
+use dfs_job::Settings;
+use dfs_script::Setting;
+
+/// The settings with another value of one.
+pub(crate) fn with_setting(settings: Settings, what: Setting, value: u64) -> Settings
+    requires settings { AreSettings settings }
+    requires range { IsTrue (is_in_range what value) }
+    ensures with { result ≡ settings_with what value settings }
+    ensures settings { AreSettings result }
+{
+    match what {
+        Setting::Buffer => Settings {
+            buffer: value as u32,
+            ..settings
+        },
+        Setting::Cache => Settings {
+            cache: value as u32,
+            ..settings
+        },
+        Setting::Parts => Settings {
+            parts: value as u16,
+            ..settings
+        },
+        Setting::LogBytes => Settings {
+            log_bytes: value,
+            ..settings
+        },
+    }
 }

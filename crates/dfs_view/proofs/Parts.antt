@@ -191,7 +191,8 @@ blocks_valid : (file : List ℕ) (fs : List Fence) → AllByRecursion (IsBlockOf
 blocks_valid file [] each = tt
 blocks_valid file (f ∷ fs) each = all_append IsRecord (records_at file f) (records_by file fs) each.0.block.valid (blocks_valid file fs each.1)
 
-run_valid : (host : HostState) (n : ℕ) (run : Run) → LiesIn host n run → AllByRecursion IsRecord (records_on host run)
+-- the records of a run that lies in its file are valid
+pub run_valid : (host : HostState) (n : ℕ) (run : Run) → LiesIn host n run → AllByRecursion IsRecord (records_on host run)
 run_valid host n run lies =
     subst (AllByRecursion IsRecord) (sym (records_in_file host n run.tables lies.inside ∙ all_records (bytes_of host n) run.tables))
     (blocks_valid (bytes_of host n) (all_fences run.tables) (all_blocks (bytes_of host n) run.tables lies.each))

@@ -1,12 +1,15 @@
-use Rattle.std.proofs.Common.{◌≡◌, ◌∙◌, ℕ, Result, Err, refl, sym, ap, subst}
+use Rattle.std.proofs.Common.{◌≡◌, ◌∙◌, ◌+◌, ℕ, arith, map, Result, Err, refl, sym, ap, subst}
 use Rattle.std.proofs.lemmas.Result.{err_from_is_err_and}
 use Rattle.std.specs.Global.{Vec}
+use Rattle.std.specs.List.{AllByRecursion}
 use Rattle.dfs_host.specs.declared.fault.Fault.{Fault}
 use Rattle.dfs_host.specs.declared.fault.Fault.TheVariants.{NoMemory, Disk}
 use Rattle.dfs_host.proofs.Causes.{none_yet}
 use Rattle.dfs_host.proofs.Moments.{silent_only, silent_reads, reads_nothing}
 use Rattle.dfs_session.specs.Session.{begins_over}
-use Rattle.dfs_session.specs.Worked.{IsWorked}
+use Rattle.dfs_session.specs.Sound.{IsListed, listed_in}
+use Rattle.dfs_session.specs.Worked.{IsWorked, plain}
+use Rattle.dfs_session.proofs.Selecting.{listed_earlier}
 use Rattle.dfs_session.proofs.Beginning.{begun_worked, begun_value, begun_images, no_memory_worked, disk_worked, failed_cause, fine_cause}
 use Rattle.dfs_session.proofs.Faults.{sound_refused}
 use Rattle.dfs_session.proofs.Images.{read_images}
@@ -21,8 +24,8 @@ returns-in_err-reply g c =
     let p = err_from_is_err_and c.from_residual.result c.from_residual.ensures.1 in
     let same : c.from_residual.result ≡ Err NoMemory = p.1 ∙ ap Err (p.2 ∙ c.in_err-reply.ensures.memory) in
     λ basis is.
-    subst (λ (r : Result (Vec ℕ) Fault). IsWorked (λ s. begins_over s c.args.word basis) host host session session r) (sym same)
-    (no_memory_worked host host session session (λ s. begins_over s c.args.word basis) (silent_reads (reads_nothing host)) (none_yet host) (sound_refused session c.requires.sound.memory) refl
+    subst (λ (r : Result (Vec ℕ) Fault). IsWorked (plain (λ s. begins_over s c.args.word basis)) host host session session r) (sym same)
+    (no_memory_worked host host session session (plain (λ s. begins_over s c.args.word basis)) (silent_reads (reads_nothing host)) (none_yet host) (sound_refused session c.requires.sound.memory) refl
     (λ s tells stands. stands_value host session s tells c.requires.sound stands) (λ s tells stands. refl)
     (λ s tells stands. read_images host host session s s.registry tells c.requires.sound stands (reads_nothing host)))
 
@@ -34,8 +37,8 @@ returns-in_err-job g c =
     let p = err_from_is_err_and c.from_residual-in_err-job.result c.from_residual-in_err-job.ensures.1 in
     let same : c.from_residual-in_err-job.result ≡ Err Disk = p.1 ∙ ap Err p.2 in
     λ basis is.
-    subst (λ (r : Result (Vec ℕ) Fault). IsWorked (λ s. begins_over s c.args.word basis) host after session session r) (sym same)
-    (disk_worked host after session session (λ s. begins_over s c.args.word basis) (silent_only c.begin.ensures.only) (failed_cause c.begin.result c.in_err-job.field-0.0 c.in_err-job.was c.begin.ensures.cause c.begin.ensures.reads)
+    subst (λ (r : Result (Vec ℕ) Fault). IsWorked (plain (λ s. begins_over s c.args.word basis)) host after session session r) (sym same)
+    (disk_worked host after session session (plain (λ s. begins_over s c.args.word basis)) (silent_only c.begin.ensures.only) (failed_cause c.begin.result c.in_err-job.field-0.0 c.in_err-job.was c.begin.ensures.cause c.begin.ensures.reads)
     (sound_refused session c.requires.sound.memory)
     (λ s tells stands. begun_images host after session c.requires.sound c.requires.last c.begin.ensures.only s s.registry tells stands))
 
@@ -46,8 +49,8 @@ returns-in-Ok g c =
     let after = g.H.Host.state c.begin.new.host in
     let begun = c.in_ok-job.ensures in
     λ basis is.
-    begun_worked host after session c.requires.sound c.requires.last c.begin.ensures.only c.args.word c.in_ok-job.job c.insert.new.self c.in-Ok.ensures.entries begun.sound begun.ids begun.log begun.stands
-    basis c.in_ok-reply.reply (λ tells. begun.entries ∙ is tells) begun.own (fine_cause c.begin.result c.in_ok-job.job c.in_ok-job.was c.begin.ensures.cause c.begin.ensures.reads) c.in_ok-reply.ensures.text
+    begun_worked host after session c.requires.sound c.requires.last c.begin.ensures.only c.args.word c.in_ok-job.job c.insert.new.self c.in-Ok.ensures.entries begun.sound begun.ids
+    (subst (AllByRecursion (IsListed (listed_in session))) (sym (ap (map (λ c. c.value)) begun.basis)) c.requires.listed) basis c.in_ok-reply.reply (λ tells. begun.stands basis tells (is tells)) (fine_cause c.begin.result c.in_ok-job.job c.in_ok-job.was c.begin.ensures.cause c.begin.ensures.reads) c.in_ok-reply.ensures.text
 
 pub returns-in-Err : goal.returns-in-Err
 returns-in-Err g c =
@@ -56,8 +59,13 @@ returns-in-Err g c =
     let after = g.H.Host.state c.begin.new.host in
     let sound = c.requires.sound in
     λ basis is.
-    no_memory_worked host after session (record session { jobs = c.insert.new.self }) (λ s. begins_over s c.args.word basis) (silent_only c.begin.ensures.only)
+    no_memory_worked host after session (record session { jobs = c.insert.new.self }) (plain (λ s. begins_over s c.args.word basis)) (silent_only c.begin.ensures.only)
     (fine_cause c.begin.result c.in_ok-job.job c.in_ok-job.was c.begin.ensures.cause c.begin.ensures.reads)
     (sound_refused (record session { jobs = c.insert.new.self }) (same_sound host session c.insert.new.self c.in-Err.ensures.err sound).memory) refl
     (λ s tells stands. begun_value host after session sound c.requires.last c.begin.ensures.only s tells stands) (λ s tells stands. refl)
     (λ s tells stands. begun_images host after session sound c.requires.last c.begin.ensures.only s s.registry tells stands)
+
+pub begin-requires-clause-earlier : goal.begin-requires-clause-earlier
+begin-requires-clause-earlier g c =
+    let session = c.args.self.now in
+    listed_earlier (listed_in session) (session.greatest + 1) (map (λ c. c.value) c.args.changes.items) (omega (arith, c.requires.sound.memory.listed)) c.requires.listed

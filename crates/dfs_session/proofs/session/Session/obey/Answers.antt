@@ -1,9 +1,8 @@
-use Rattle.std.proofs.Common.{refl, sym, subst}
+use Rattle.std.proofs.Common.{◌≡◌, refl, sym, subst}
 use Rattle.dfs_reply.specs.declared.Reply.TheVariants.{Nothing as NoReply}
 use Rattle.dfs_script.specs.declared.Line.{Line}
 use Rattle.dfs_script.specs.declared.Line.TheVariants.{Nothing}
-use Rattle.dfs_session.specs.Session.{after_command}
-use Rattle.dfs_session.specs.Worked.{IsWorked}
+use Rattle.dfs_session.specs.Worked.{IsWorked, of_command}
 use Rattle.dfs_session.proofs.Working.{stays_in_memory}
 use Rattle.dfs_session.proofs.session.Session.obey.Goals as goal
 
@@ -11,21 +10,27 @@ pub returns-in-Nothing : goal.returns-in-Nothing
 returns-in-Nothing g c =
     let session = c.args.self.now in
     let host = g.H.Host.state c.args.host.now in
-    subst (λ (line : Line). IsWorked (λ s. after_command s line) host host session session c.text_of.result) (sym c.in-Nothing.is)
-    (stays_in_memory host session session.jobs (λ s. after_command s Nothing) NoReply c.text_of.result refl c.requires.sound (λ s tells stands. refl) c.text_of.ensures.text c.text_of.ensures.memory)
+    subst (λ (line : Line). IsWorked (of_command line) host host session session c.text_of.result) (sym c.in-Nothing.is)
+    (stays_in_memory host session session.jobs (of_command Nothing) NoReply c.text_of.result refl refl c.requires.sound (λ s tells stands. refl) c.text_of.ensures.text c.text_of.ensures.memory)
+
+pub returns-in-Set : goal.returns-in-Set
+returns-in-Set g c =
+    let host = g.H.Host.state c.args.host.now in
+    subst (λ (line : Line). IsWorked (of_command line) host host c.args.self.now c.set.new.self c.set.result) (sym c.in-Set.is) (c.set.ensures host c.requires.sound)
 
 pub returns-in-Snapshots : goal.returns-in-Snapshots
 returns-in-Snapshots g c =
     let session = c.args.self.now in
     let host = g.H.Host.state c.args.host.now in
-    subst (λ (line : Line). IsWorked (λ s. after_command s line) host host session session c.tell_snapshots.result) (sym c.in-Snapshots.is) (c.tell_snapshots.ensures host c.requires.sound)
+    subst (λ (line : Line). IsWorked (of_command line) host host session session c.tell_snapshots.result) (sym c.in-Snapshots.is) (c.tell_snapshots.ensures host c.requires.sound)
 
-pub returns-in-Space : goal.returns-in-Space
-returns-in-Space g c =
+pub returns-in-Stats : goal.returns-in-Stats
+returns-in-Stats g c =
+    let session = c.args.self.now in
     let host = g.H.Host.state c.args.host.now in
-    subst (λ (line : Line). IsWorked (λ s. after_command s line) host host c.args.self.now c.operate.new.self c.operate.result) (sym c.in-Space.is) (c.operate.ensures host c.requires.sound)
+    subst (λ (line : Line). IsWorked (of_command line) host host session session c.tell_stats.result) (sym c.in-Stats.is) (c.tell_stats.ensures host c.requires.sound)
 
 pub returns-in-End : goal.returns-in-End
 returns-in-End g c =
     let host = g.H.Host.state c.args.host.now in
-    subst (λ (line : Line). IsWorked (λ s. after_command s line) host host c.args.self.now c.end.new.self c.end.result) (sym c.in-End.is) (c.end.ensures host c.requires.sound)
+    subst (λ (line : Line). IsWorked (of_command line) host host c.args.self.now c.end.new.self c.end.result) (sym c.in-End.is) (c.end.ensures host c.requires.sound)

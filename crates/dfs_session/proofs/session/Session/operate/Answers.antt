@@ -1,49 +1,81 @@
-use Rattle.std.proofs.Common.{◌≡◌, ◌∙◌, ap, sym, subst, ℕ, Option, Err, Result}
+use Rattle.std.proofs.Common.{◌≡◌, ◌∙◌, ℕ, Option, Some, Result, Ok, Err, refl, sym, ap, subst, map}
 use Rattle.std.proofs.lemmas.Result.{err_from_is_err_and}
-use Rattle.std.specs.Prelude.{IfOk}
+use Rattle.std.specs.BTreeMap.{BTreeMap, is_at}
 use Rattle.std.specs.Global.{Vec}
+use Rattle.std.specs.Prelude.{IfOk, IsTrue}
+use Rattle.dfs_host.specs.Fault.{HasFaultCause}
 use Rattle.dfs_host.specs.declared.fault.Fault.{Fault}
-use Rattle.dfs_reply.specs.Text.{text}
+use Rattle.dfs_host.specs.declared.fault.Fault.TheVariants.{Disk, LogFull}
+use Rattle.dfs_host.proofs.Causes.{none_yet, none_by}
+use Rattle.dfs_ops.specs.declared.OpReply.{OpReply}
 use Rattle.dfs_reply.specs.declared.Reply.{Reply}
-use Rattle.dfs_script.specs.declared.JobWord.{JobWord}
-use Rattle.dfs_session.specs.declared.job.Job.{Job as LiveJob}
 use Rattle.dfs_reply.specs.declared.Reply.TheVariants.{Error}
 use Rattle.dfs_reply.specs.declared.Word.TheVariants as word
-use Rattle.dfs_session.specs.Job.{Job, does}
-use Rattle.dfs_session.specs.Session.{of_live, operates, operates_for, word_cmp}
-use Rattle.std.specs.BTreeMap.{BTreeMap, is_at}
-use Rattle.dfs_session.specs.Sound.{IsLive, jobs_of, listed_in}
-use Rattle.dfs_session.proofs.Changing.{no_job, operated_worked, failed_worked}
-use Rattle.dfs_session.proofs.Jobs.{all_found}
-use Rattle.dfs_session.proofs.Working.{OnlyMemory, stays_in_memory}
+use Rattle.dfs_reply.specs.Text.{text}
+use Rattle.dfs_script.specs.declared.JobWord.{JobWord}
+use Rattle.dfs_job.specs.declared.job.Job.{Job as LiveJob}
+use Rattle.dfs_job.specs.Job.{Job, after, does}
+use Rattle.dfs_session.specs.Session.{of_live, operates, told, word_cmp}
+use Rattle.dfs_session.specs.Worked.{IsShort, IsWorked, operating, with_op}
+use Rattle.dfs_session.proofs.Changing.{answered_worked, changed_stands, fault_worked, found_job, no_job, was_live, was_sound}
+use Rattle.dfs_session.proofs.Handed.{none_unless}
+use Rattle.dfs_session.proofs.Selecting.{no_fault}
+use Rattle.dfs_session.proofs.Working.{stays_in_memory}
 use Rattle.dfs_session.proofs.session.Session.operate.Goals as goal
 
-pub operate-requires-clause-sound : goal.operate-requires-clause-sound
-operate-requires-clause-sound c =
-    let session = c.args.self.now in
-    (all_found (λ x. IsLive session.settings.log_bytes session.greatest (listed_in session) x) (is_at (word_cmp c.args.word.now)) (jobs_of session) c.in-Some.job.now c.requires.sound.jobs (sym c.in-Some.ensures.value)).sound
+pub op-requires-clause-sound : goal.op-requires-clause-sound
+op-requires-clause-sound g c =
+    let host = g.H.Host.state c.args.host.now in
+    was_sound host host c.args.self.now c.args.word.now c.in-Some.job.now c.requires.sound (sym c.in-Some.ensures.value)
 
 pub returns-in_default : goal.returns-in_default
-returns-in_default c =
+returns-in_default g c =
     let session = c.args.self.now in
+    let host = g.H.Host.state c.args.host.now in
     let w = c.args.word.now in
-    λ host sound.
-    stays_in_memory host session c.get_mut.follows.lender-at-none (λ s. operates_for s w c.args.op.now) (Error word.NoJob) c.text_of.result (ap (λ (m : BTreeMap JobWord LiveJob). m.entries) c.get_mut.follows.holds-at-none) sound
-    (λ s tells stands. ap (λ (o : Option Job). of_live o s (λ j. operates s w j (does j c.args.op.now))) (no_job host session s w stands (sym c.in_default.ensures.value)))
+    let op = c.args.op.now in
+    stays_in_memory host session c.get_mut.follows.lender-at-none (operating w op) (Error word.NoJob) c.text_of.result (ap (λ (m : BTreeMap JobWord LiveJob). m.entries) c.get_mut.follows.holds-at-none) refl c.requires.sound
+    (λ s tells stands. ap (λ (o : Option Job). of_live o s (λ j. operates s w j (does j op))) (no_job host session s w stands (sym c.in_default.ensures.value)))
     c.text_of.ensures.text c.text_of.ensures.memory
 
 pub returns-in_err-answer : goal.returns-in_err-answer
-returns-in_err-answer c =
-    let x = c.operate.new.self in
+returns-in_err-answer g c =
+    let session = c.args.self.now in
+    let before = g.H.Host.state c.args.host.now in
+    let after = g.H.Host.state c.op.new.host in
+    let w = c.args.word.now in
+    let op = c.args.op.now in
+    let live = c.in-Some.job.now in
+    let found = sym c.in-Some.ensures.value in
+    let x = c.op.new.self in
+    let fault = c.in_err-answer.field-0.0 in
+    let was = c.in_err-answer.was in
     let p = err_from_is_err_and c.from_residual.result c.from_residual.ensures.1 in
-    let same : c.from_residual.result ≡ Err c.in_err-answer.field-0.0 = p.1 ∙ ap Err p.2 in
-    λ host sound.
-    failed_worked host c.args.self.now c.args.word.now c.in-Some.job.now x (c.get_mut.follows.lender x) sound (sym c.in-Some.ensures.value) (c.get_mut.follows.holds x).0 c.operate.ensures.log
-    c.args.op.now c.from_residual.result c.in_err-answer.field-0.0 same (subst (λ (r : Result (Vec ℕ) Fault). OnlyMemory r) (sym same) c.in_err-answer.ensures.memory)
+    let same : c.from_residual.result ≡ Err fault = p.1 ∙ ap Err p.2 in
+    subst (λ (r : Result (Vec ℕ) Fault). IsWorked (operating w op) before after session (record session { jobs = c.get_mut.follows.lender x }) r) (sym same)
+    (fault_worked before after session w live c.requires.sound found c.op.ensures.only x (c.get_mut.follows.lender x) (c.get_mut.follows.holds x).0 (operating w op) fault
+    (subst (λ (r : Result OpReply Fault). HasFaultCause before after r) was c.op.ensures.cause) (λ is. c.op.ensures.full.0 (was ∙ is), λ some. sym was ∙ c.op.ensures.full.1 some)
+    (λ s tells stands is.
+    let f = found_job before session s w live stands found in
+    subst (λ (o : Option Job). IsShort (with_op op o)) (sym f.found) (c.op.ensures.short f.plain tells f.is (was ∙ ap Err is))))
 
 pub returns : goal.returns
-returns c =
-    let x = c.operate.new.self in
-    λ host sound.
-    operated_worked host c.args.self.now c.args.word.now c.in-Some.job.now x (c.get_mut.follows.lender x) sound (sym c.in-Some.ensures.value) (c.get_mut.follows.holds x).0 c.operate.ensures.log
-    c.args.op.now c.in_ok-answer.answer c.text_of-2.result c.in_ok-answer.ensures.sound c.in_ok-answer.ensures.answer c.in_ok-answer.ensures.ids c.in_ok-answer.ensures.entries c.in_ok-answer.ensures.own (subst (λ (r : Reply). IfOk c.text_of-2.result (λ bytes. bytes.items ≡ text r)) c.told.ensures c.text_of-2.ensures.text) c.text_of-2.ensures.memory
+returns g c =
+    let session = c.args.self.now in
+    let before = g.H.Host.state c.args.host.now in
+    let after_op = g.H.Host.state c.op.new.host in
+    let w = c.args.word.now in
+    let op = c.args.op.now in
+    let live = c.in-Some.job.now in
+    let found = sym c.in-Some.ensures.value in
+    let x = c.op.new.self in
+    let jobs = c.get_mut.follows.lender x in
+    let set = (c.get_mut.follows.holds x).0 in
+    let of = c.in_ok-answer.ensures in
+    let answer = c.in_ok-answer.answer in
+    let ok = no_fault c.op.result answer in
+    answered_worked before after_op session w live c.requires.sound found c.op.ensures.only x jobs set (operating w op) (λ s f. operates s w f.plain (does f.plain op)) c.text_of-2.result (none_by (none_yet before) c.op.ensures.cause (ok Disk c.in_ok-answer.was))
+    (none_unless x.layers.log.refused (λ some. ok LogFull c.in_ok-answer.was (c.op.ensures.full.1 some))) refl of.sound of.number (ap (map (λ c. c.value)) c.op.ensures.basis)
+    (λ s f. ap (λ (o : Option Job). of_live o s (λ j. operates s w j (does j op))) f.found) (λ s f. refl)
+    (λ s f tells. subst (λ (a : OpReply). IfOk c.text_of-2.result (λ bytes. bytes.items ≡ text (told a))) (of.answer f.plain tells f.is) (subst (λ (r : Reply). IfOk c.text_of-2.result (λ bytes. bytes.items ≡ text r)) c.told.ensures c.text_of-2.ensures.text))
+    (λ s f tells stands. changed_stands before after_op session w live c.requires.sound found c.op.ensures.only x jobs set s (after f.plain (does f.plain op)) tells stands (of.stands f.plain tells f.is)) c.text_of-2.ensures.memory

@@ -4,10 +4,11 @@ use Rattle.std.specs.Prelude.{nat_le, is_some}
 use Rattle.dfs_host.proofs.Causes.{none_yet}
 use Rattle.dfs_reply.specs.declared.Reply.TheVariants.{Error}
 use Rattle.dfs_reply.specs.declared.Word.TheVariants as word
-use Rattle.dfs_session.specs.Job.{Job}
+use Rattle.dfs_job.specs.Job.{Job}
 use Rattle.dfs_session.specs.Selected.{is_listed}
 use Rattle.dfs_session.specs.Session.{of_job, of_live, publishes, publishes_for, publishes_anew}
 use Rattle.dfs_session.specs.Sound.{listed_in, live_in}
+use Rattle.dfs_session.specs.Worked.{publishing, publishing_anew}
 use Rattle.dfs_session.proofs.Changing.{no_job, found_job, some_of, none_of}
 use Rattle.dfs_session.proofs.Choosing.{publishes_as, publishes_as_anew, any_found, after_reads}
 use Rattle.dfs_host.proofs.Moments.{reads_nothing}
@@ -20,7 +21,7 @@ returns-then-not-contains_key g c =
     let session = c.args.self.now in
     let host = g.H.Host.state c.args.host.now in
     let w = c.args.word.now in
-    stays_in_memory host session session.jobs (λ s. publishes_for s w c.args.name) (Error word.NoJob) c.text_of.result refl c.requires
+    stays_in_memory host session session.jobs (publishing w c.args.name) (Error word.NoJob) c.text_of.result refl refl c.requires
     (λ s tells stands. ap (λ (o : Option Job). of_live o s (λ j. publishes s w j c.args.name)) (no_job host session s w stands (none_of (live_in session w) (sym c.if-not-contains_key.ensures))))
     c.text_of.ensures.text c.text_of.ensures.memory
 
@@ -32,7 +33,7 @@ returns-then-is_some g c =
     let name = c.args.name in
     let live = some_of (live_in session w) (sym c.if-not-contains_key.ensures) in
     let taken : true ≡ is_listed (listed_in session) name = c.if-is_some.ensures ∙ sym (lent_some c.find.result) ∙ ap is_some c.find.ensures in
-    stays_in_memory host session session.jobs (λ s. publishes_for s w name) (Error word.Taken) c.text_of-then-is_some.result refl c.requires
+    stays_in_memory host session session.jobs (publishing w name) (Error word.Taken) c.text_of-then-is_some.result refl refl c.requires
     (λ s tells stands. publishes_as host session s w live.0 name stands (found_job host session s w live.0 stands live.1) true (nat_le 4096 (length (listed_in session))) taken refl)
     c.text_of-then-is_some.ensures.text c.text_of-then-is_some.ensures.memory
 
@@ -45,7 +46,7 @@ returns-then-count-ge-MOST_PUBLICATIONS g c =
     let live = some_of (live_in session w) (sym c.if-not-contains_key.ensures) in
     let anew : false ≡ is_listed (listed_in session) name = c.if-is_some.ensures ∙ sym (lent_some c.find.result) ∙ ap is_some c.find.ensures in
     let full : true ≡ nat_le 4096 (length (listed_in session)) = sym (le-leb 4096 (length (listed_in session)) (omega (arith, c.if-count-ge-MOST_PUBLICATIONS.true, c.count.ensures.count))) in
-    stays_in_memory host session session.jobs (λ s. publishes_for s w name) (Error word.Full) c.text_of-then-count-ge-MOST_PUBLICATIONS.result refl c.requires
+    stays_in_memory host session session.jobs (publishing w name) (Error word.Full) c.text_of-then-count-ge-MOST_PUBLICATIONS.result refl refl c.requires
     (λ s tells stands. publishes_as host session s w live.0 name stands (found_job host session s w live.0 stands live.1) false true anew full)
     c.text_of-then-count-ge-MOST_PUBLICATIONS.ensures.text c.text_of-then-count-ge-MOST_PUBLICATIONS.ensures.memory
 
@@ -63,6 +64,6 @@ returns g c =
     let live = some_of (live_in session w) (sym c.if-not-contains_key.ensures) in
     let anew : false ≡ is_listed (listed_in session) name = c.if-is_some.ensures ∙ sym (lent_some c.find.result) ∙ ap is_some c.find.ensures in
     let few : false ≡ nat_le 4096 (length (listed_in session)) = sym (lt-leb 4096 (length (listed_in session)) (omega (arith, c.if-count-ge-MOST_PUBLICATIONS.false, c.count.ensures.count))) in
-    after_reads host host after session c.publish_anew.new.self (λ s. publishes_for s w name) (λ s. of_job s w (λ j. publishes_anew s w j name)) c.publish_anew.result c.requires (reads_nothing host) (none_yet host)
-    (λ s tells stands. publishes_as_anew host session s w live.0 name stands (found_job host session s w live.0 stands live.1) anew few)
+    after_reads host host after session c.publish_anew.new.self (publishing w name) (publishing_anew w name) c.publish_anew.result c.requires (reads_nothing host) (none_yet host)
+    (λ s tells stands. publishes_as_anew host session s w live.0 name stands (found_job host session s w live.0 stands live.1) anew few) (λ s. refl) (λ t. refl)
     c.publish_anew.ensures

@@ -1,12 +1,10 @@
-use Rattle.std.proofs.Common.{arith, ◌≡◌, ◌∙◌, ℕ, Option, Some, Result, Err, refl, sym, ap, subst}
+use Rattle.std.proofs.Common.{◌≡◌, ◌∙◌, ℕ, Option, Some, Result, Ok, Err, refl, sym, ap, subst}
 use Rattle.std.proofs.lemmas.Result.{err_from_is_err_and}
 use Rattle.std.specs.BTreeMap.{BTreeMap, is_at}
 use Rattle.std.specs.Global.{Vec}
 use Rattle.std.specs.Map.{remove_entry}
 use Rattle.std.specs.Prelude.{IsTrue}
-use Rattle.dfs_host.specs.Disk.{IsSettled}
 use Rattle.dfs_host.specs.Fault.{HasFaultCause, NoFault}
-use Rattle.dfs_host.specs.Host.{bytes_of}
 use Rattle.dfs_host.specs.declared.fault.Fault.{Fault}
 use Rattle.dfs_host.specs.declared.fault.Fault.TheVariants.{NoMemory, Disk, LogFull}
 use Rattle.dfs_host.proofs.Causes.{none_yet, none_by}
@@ -14,17 +12,16 @@ use Rattle.dfs_registry.specs.declared.listed.Listed.{Listed}
 use Rattle.dfs_reply.specs.declared.Reply.TheVariants.{Error}
 use Rattle.dfs_reply.specs.declared.Word.TheVariants as word
 use Rattle.dfs_change.specs.declared.sealing.Sealed.{Sealed}
-use Rattle.dfs_change.specs.Meant.{log_meaning}
-use Rattle.dfs_change.specs.Sealing.{entry_of}
 use Rattle.dfs_script.specs.declared.JobWord.{JobWord}
-use Rattle.dfs_session.specs.declared.job.Job.{Job as LiveJob}
-use Rattle.dfs_session.specs.Job.{Job}
-use Rattle.dfs_session.specs.Session.{Session, Step, of_job, of_live, publishes_anew, word_cmp}
+use Rattle.dfs_job.specs.declared.job.Job.{Job as LiveJob}
+use Rattle.dfs_job.specs.Job.{Job}
+use Rattle.dfs_session.specs.Session.{of_live, publishes_anew, word_cmp}
 use Rattle.dfs_session.specs.Sound.{jobs_of}
-use Rattle.dfs_session.specs.Worked.{IsWorked}
-use Rattle.dfs_session.proofs.Changing.{no_job}
+use Rattle.dfs_session.specs.Worked.{IsShort, IsWorked, publishing_anew}
+use Rattle.dfs_session.proofs.Changing.{fault_worked, found_job, no_job, registry_still, still_unrefused, was_live, was_sound}
+use Rattle.dfs_session.proofs.Handed.{fault_or, memory_not_full, none_unless}
 use Rattle.dfs_session.proofs.Jobs.{Live, remove_set}
-use Rattle.dfs_session.proofs.Publishing.{fault_or, none_unless, registry_still, memory_not_full, memory_not_changed, was_live, log_stood, own_fit, own_few, in_range, still_unrefused, unsealed_worked, unlisted_worked, published_worked}
+use Rattle.dfs_session.proofs.Publishing.{in_range, published_worked, unlisted_worked}
 use Rattle.dfs_session.proofs.Selecting.{no_fault}
 use Rattle.dfs_session.proofs.Working.{memory_cause, stays_in_memory}
 use Rattle.dfs_session.proofs.session.Session.publish_anew.Goals as goal
@@ -34,75 +31,58 @@ returns-in_default g c =
     let session = c.args.self.now in
     let host = g.H.Host.state c.args.host.now in
     let w = c.args.word.now in
-    stays_in_memory host session c.get_mut.follows.lender-at-none (λ s. of_job s w (λ j. publishes_anew s w j c.args.name)) (Error word.NoJob) c.text_of.result
-    (ap (λ (m : BTreeMap JobWord LiveJob). m.entries) c.get_mut.follows.holds-at-none) c.requires.sound
+    stays_in_memory host session c.get_mut.follows.lender-at-none (publishing_anew w c.args.name) (Error word.NoJob) c.text_of.result (ap (λ (m : BTreeMap JobWord LiveJob). m.entries) c.get_mut.follows.holds-at-none) refl c.requires.sound
     (λ s tells stands. ap (λ (o : Option Job). of_live o s (λ j. publishes_anew s w j c.args.name)) (no_job host session s w stands (sym c.in_default.ensures.value)))
     c.text_of.ensures.text c.text_of.ensures.memory
 
-pub write_changes-requires-clause-live : goal.write_changes-requires-clause-live
-write_changes-requires-clause-live g c =
+pub publish_tables-requires : goal.publish_tables-requires
+publish_tables-requires g c =
     let host = g.H.Host.state c.args.host.now in
-    (was_live host host c.args.self.now c.args.word.now c.in-Some.job.now c.requires.sound (sym c.in-Some.ensures.value)).sound.live
-
-pub write_changes-requires-clause-stands : goal.write_changes-requires-clause-stands
-write_changes-requires-clause-stands g c =
-    let host = g.H.Host.state c.args.host.now in
-    log_stood host host c.args.self.now c.args.word.now c.in-Some.job.now c.requires.sound (sym c.in-Some.ensures.value)
-
-pub write_changes-requires-clause-fit : goal.write_changes-requires-clause-fit
-write_changes-requires-clause-fit g c =
-    let host = g.H.Host.state c.args.host.now in
-    own_fit host host c.args.self.now c.args.word.now c.in-Some.job.now c.requires.sound (sym c.in-Some.ensures.value)
-
-pub write_changes-requires-clause-few : goal.write_changes-requires-clause-few
-write_changes-requires-clause-few g c =
-    let host = g.H.Host.state c.args.host.now in
-    own_few host host c.args.self.now c.args.word.now c.in-Some.job.now c.requires.sound (sym c.in-Some.ensures.value)
+    record { sound = was_sound host host c.args.self.now c.args.word.now c.in-Some.job.now c.requires.sound (sym c.in-Some.ensures.value) }
 
 pub returns-in_err-sealed : goal.returns-in_err-sealed
 returns-in_err-sealed g c =
     let session = c.args.self.now in
     let w = c.args.word.now in
     let before = g.H.Host.state c.args.host.now in
-    let mid = g.H.Host.state c.write_changes.new.host in
-    let job = c.in-Some.job.now in
-    let x : LiveJob = record job { log = c.write_changes.new.log } in
+    let mid = g.H.Host.state c.publish_tables.new.host in
+    let live = c.in-Some.job.now in
+    let found = sym c.in-Some.ensures.value in
+    let x = c.publish_tables.new.self in
     let jobs = c.get_mut.follows.lender x in
     let fault = c.in_err-sealed.field-0.0 in
-    let wrote = c.write_changes.ensures in
     let was = c.in_err-sealed.was in
-    let does : Session → Step = λ s. of_job s w (λ j. publishes_anew s w j c.args.name) in
+    let wrote = c.publish_tables.ensures in
     let p = err_from_is_err_and c.from_residual.result c.from_residual.ensures.1 in
     let same : c.from_residual.result ≡ Err fault = p.1 ∙ ap Err p.2 in
-    subst (λ (r : Result (Vec ℕ) Fault). IsWorked does before mid session (record session { jobs = jobs }) r) (sym same)
-    (unsealed_worked before mid session w job c.requires.sound (sym c.in-Some.ensures.value) wrote.only c.write_changes.new.log jobs (c.get_mut.follows.holds x).0 does fault
-    (subst (λ (r : Result Sealed Fault). HasFaultCause before mid r) was wrote.cause)
-    (λ is. let some = wrote.full.0 (was ∙ ap Err is) in (omega (arith, wrote.over some, wrote.growth, wrote.same.1), some))
-    (λ other. none_unless c.write_changes.new.log.refused (λ some. other (ap fault_or (sym was ∙ wrote.full.1 some))))
-    (λ file at is. wrote.never_changed file at (was ∙ ap Err is)))
+    subst (λ (r : Result (Vec ℕ) Fault). IsWorked (publishing_anew w c.args.name) before mid session (record session { jobs = jobs }) r) (sym same)
+    (fault_worked before mid session w live c.requires.sound found wrote.only x jobs (c.get_mut.follows.holds x).0 (publishing_anew w c.args.name) fault
+    (subst (λ (r : Result Sealed Fault). HasFaultCause before mid r) was wrote.cause) (λ is. wrote.full.0 (was ∙ is), λ some. sym was ∙ wrote.full.1 some)
+    (λ s tells stands is.
+    let f = found_job before session s w live stands found in
+    subst IsShort (sym f.found) (wrote.short f.plain tells f.is (was ∙ ap Err is))))
 
 pub returns-in_err-reply : goal.returns-in_err-reply
 returns-in_err-reply g c =
     let session = c.args.self.now in
     let w = c.args.word.now in
     let before = g.H.Host.state c.args.host.now in
-    let mid = g.H.Host.state c.write_changes.new.host in
-    let job = c.in-Some.job.now in
-    let x : LiveJob = record job { log = c.write_changes.new.log } in
+    let mid = g.H.Host.state c.publish_tables.new.host in
+    let live = c.in-Some.job.now in
+    let x = c.publish_tables.new.self in
     let jobs = c.get_mut.follows.lender x in
-    let wrote = c.write_changes.ensures in
-    let ok = no_fault c.write_changes.result c.in_ok-sealed.sealed in
-    let does : Session → Step = λ s. of_job s w (λ j. publishes_anew s w j c.args.name) in
+    let wrote = c.publish_tables.ensures in
+    let ok = no_fault c.publish_tables.result c.in_ok-sealed.sealed in
     let p = err_from_is_err_and c.from_residual-in_err-reply.result c.from_residual-in_err-reply.ensures.1 in
     let same : c.from_residual-in_err-reply.result ≡ Err NoMemory = p.1 ∙ ap Err (p.2 ∙ c.in_err-reply.ensures.memory) in
     let none : NoFault before mid = none_by (none_yet before) wrote.cause (ok Disk c.in_ok-sealed.was) in
-    subst (λ (r : Result (Vec ℕ) Fault). IsWorked does before mid session (record session { jobs = jobs }) r) (sym same)
-    (unsealed_worked before mid session w job c.requires.sound (sym c.in-Some.ensures.value) wrote.only c.write_changes.new.log jobs (c.get_mut.follows.holds x).0 {T = Vec ℕ} does NoMemory
-    (memory_cause (Err NoMemory) none refl) (λ is. absurd (memory_not_full is)) (λ other. none_unless c.write_changes.new.log.refused (λ some. ok LogFull c.in_ok-sealed.was (wrote.full.1 some))) memory_not_changed)
+    subst (λ (r : Result (Vec ℕ) Fault). IsWorked (publishing_anew w c.args.name) before mid session (record session { jobs = jobs }) r) (sym same)
+    (fault_worked before mid session w live c.requires.sound (sym c.in-Some.ensures.value) wrote.only x jobs (c.get_mut.follows.holds x).0 {T = Vec ℕ} (publishing_anew w c.args.name) NoMemory (memory_cause (Err NoMemory) none refl)
+    (λ is. absurd (memory_not_full (ap fault_or is)), λ some. absurd (ok LogFull c.in_ok-sealed.was (wrote.full.1 some))) (λ s tells stands is. absurd (memory_not_full is)))
 
 pub list-requires-clause-stands : goal.list-requires-clause-stands
 list-requires-clause-stands g c =
-    registry_still (g.H.Host.state c.args.host.now) (g.H.Host.state c.write_changes.new.host) c.args.self.now c.args.word.now c.in-Some.job.now c.requires.sound (sym c.in-Some.ensures.value) c.write_changes.ensures.only
+    registry_still (g.H.Host.state c.args.host.now) (g.H.Host.state c.publish_tables.new.host) c.args.self.now c.args.word.now c.in-Some.job.now c.requires.sound (sym c.in-Some.ensures.value) c.publish_tables.ensures.only
 
 pub list-requires-clause-job_apart : goal.list-requires-clause-job_apart
 list-requires-clause-job_apart g c =
@@ -110,60 +90,53 @@ list-requires-clause-job_apart g c =
     (was_live host host c.args.self.now c.args.word.now c.in-Some.job.now c.requires.sound (sym c.in-Some.ensures.value)).unlisted
 
 pub list-requires-clause-job_range : goal.list-requires-clause-job_range
-list-requires-clause-job_range g c =
-    let host = g.H.Host.state c.args.host.now in
-    in_range host host c.args.self.now c.args.word.now c.in-Some.job.now c.requires.sound (sym c.in-Some.ensures.value)
+list-requires-clause-job_range g c = in_range (g.H.Host.state c.args.host.now) c.args.self.now c.args.word.now c.in-Some.job.now c.requires.sound (sym c.in-Some.ensures.value)
 
 pub returns-in_err-list : goal.returns-in_err-list
 returns-in_err-list g c =
     let session = c.args.self.now in
     let w = c.args.word.now in
     let before = g.H.Host.state c.args.host.now in
-    let mid = g.H.Host.state c.write_changes.new.host in
+    let mid = g.H.Host.state c.publish_tables.new.host in
     let after = g.H.Host.state c.list.new.host in
-    let job = c.in-Some.job.now in
-    let x : LiveJob = record job { log = c.write_changes.new.log } in
+    let live = c.in-Some.job.now in
+    let found = sym c.in-Some.ensures.value in
+    let x = c.publish_tables.new.self in
     let jobs = c.get_mut.follows.lender x in
     let new = record session { registry = c.list.new.registry; jobs = jobs } in
-    let found = sym c.in-Some.ensures.value in
     let fault = c.in_err-list.field-0.0 in
-    let wrote = c.write_changes.ensures in
+    let wrote = c.publish_tables.ensures in
     let listing = c.list.ensures in
     let was = c.in_err-list.was in
-    let ok = no_fault c.write_changes.result c.in_ok-sealed.sealed in
-    let does : Session → Step = λ s. of_job s w (λ j. publishes_anew s w j c.args.name) in
     let sealed = c.in_ok-sealed.sealed in
-    let listed : Listed = record { name = c.args.name; job = job.ids.job; at = sealed.at; len = sealed.len; count = sealed.count } in
-    let file : job.log.file ≡ job.ids.job = (was_live before mid session w job c.requires.sound found).sound.file in
-    let changes : IsTrue before.tells → log_meaning (bytes_of mid job.ids.job) listed ≡ Some job.space.own = λ tells. subst (λ (n : ℕ). log_meaning (bytes_of mid n) (entry_of c.args.name n sealed) ≡ Some job.space.own) file (c.in_ok-sealed.ensures.log tells c.args.name) in
-    let settled : IsTrue before.tells → IsSettled (mid.disk.files job.ids.job) = λ tells. subst (λ (n : ℕ). IsSettled (mid.disk.files n)) file (c.in_ok-sealed.ensures.settled tells) in
+    let of = c.in_ok-sealed.ensures in
+    let ok = no_fault c.publish_tables.result sealed in
+    let listed : Listed = record { name = c.args.name; job = live.ids.job; at = sealed.at; len = sealed.len; count = sealed.count } in
     let p = err_from_is_err_and c.from_residual-in_err-list.result c.from_residual-in_err-list.ensures.1 in
     let same : c.from_residual-in_err-list.result ≡ Err fault = p.1 ∙ ap Err p.2 in
-    subst (λ (r : Result (Vec ℕ) Fault). IsWorked does before after session new r) (sym same)
-    (unlisted_worked before mid after session w job c.requires.sound found wrote.only listing.only listed refl listing.images changes settled fault new (none_by (none_yet before) wrote.cause (ok Disk c.in_ok-sealed.was))
-    (subst (λ (r : Result (Unit {0}) Fault). HasFaultCause mid after r) was listing.cause)
+    subst (λ (r : Result (Vec ℕ) Fault). IsWorked (publishing_anew w c.args.name) before after session new r) (sym same)
+    (unlisted_worked before mid after session w live c.requires.sound found wrote.only listing.only listed refl listing.images (λ j tells stands. of.changes j tells stands c.args.name) of.settled fault new
+    (none_by (none_yet before) wrote.cause (ok Disk c.in_ok-sealed.was)) (subst (λ (r : Result (Unit {0}) Fault). HasFaultCause mid after r) was listing.cause)
     (λ is. listing.memory (was ∙ ap Err is)) (λ is. listing.never_full (was ∙ ap Err is)) (λ file at is. listing.never_changed file at (was ∙ ap Err is))
-    (still_unrefused before mid session w job c.requires.sound found wrote.only c.write_changes.new.log jobs (c.get_mut.follows.holds x).0 (none_unless c.write_changes.new.log.refused (λ some. ok LogFull c.in_ok-sealed.was (wrote.full.1 some)))))
+    (still_unrefused before mid session w live c.requires.sound found wrote.only x jobs (c.get_mut.follows.holds x).0 (none_unless x.layers.log.refused (λ some. ok LogFull c.in_ok-sealed.was (wrote.full.1 some)))))
 
 pub returns : goal.returns
 returns g c =
     let session = c.args.self.now in
     let w = c.args.word.now in
     let before = g.H.Host.state c.args.host.now in
-    let mid = g.H.Host.state c.write_changes.new.host in
+    let mid = g.H.Host.state c.publish_tables.new.host in
     let after = g.H.Host.state c.list.new.host in
-    let job = c.in-Some.job.now in
-    let x : LiveJob = record job { log = c.write_changes.new.log } in
+    let live = c.in-Some.job.now in
+    let x = c.publish_tables.new.self in
     let found = sym c.in-Some.ensures.value in
     let sealed = c.in_ok-sealed.sealed in
-    let wrote = c.write_changes.ensures in
+    let of = c.in_ok-sealed.ensures in
+    let wrote = c.publish_tables.ensures in
     let listing = c.list.ensures in
-    let listed : Listed = record { name = c.args.name; job = job.ids.job; at = sealed.at; len = sealed.len; count = sealed.count } in
-    let file : job.log.file ≡ job.ids.job = (was_live before mid session w job c.requires.sound found).sound.file in
-    published_worked before mid after session w job c.requires.sound found wrote.only listing.only listed refl c.list.new.registry c.remove.new.self c.in_ok-list.ensures.listed
+    let listed : Listed = record { name = c.args.name; job = live.ids.job; at = sealed.at; len = sealed.len; count = sealed.count } in
+    published_worked before mid after session w live c.requires.sound found wrote.only listing.only listed refl c.list.new.registry c.remove.new.self c.in_ok-list.ensures.listed
     (c.remove.ensures.entries ∙ ap (λ (es : Live). remove_entry (is_at (word_cmp w)) es) (c.get_mut.follows.holds x).0 ∙ remove_set (is_at (word_cmp w)) (jobs_of session) x)
     c.in_ok-list.ensures.live c.in_ok-list.ensures.stands listing.images c.in_ok-reply.reply sealed.count
-    (none_by (none_by (none_yet before) wrote.cause (no_fault c.write_changes.result sealed Disk c.in_ok-sealed.was)) listing.cause (no_fault c.list.result tt Disk c.in_ok-list.was))
-    c.in_ok-reply.ensures.text c.in_ok-sealed.ensures.count
-    (λ tells. subst (λ (n : ℕ). log_meaning (bytes_of mid n) (entry_of c.args.name n sealed) ≡ Some job.space.own) file (c.in_ok-sealed.ensures.log tells c.args.name))
-    (λ tells. subst (λ (n : ℕ). IsSettled (mid.disk.files n)) file (c.in_ok-sealed.ensures.settled tells))
+    (none_by (none_by (none_yet before) wrote.cause (no_fault c.publish_tables.result sealed Disk c.in_ok-sealed.was)) listing.cause (no_fault c.list.result tt Disk c.in_ok-list.was))
+    c.in_ok-reply.ensures.text of.count (λ j tells stands. of.changes j tells stands c.args.name) of.settled

@@ -1,4 +1,4 @@
-use Rattle.std.proofs.Common.{◌≡◌, ℕ, refl, ap, subst, Err}
+use Rattle.std.proofs.Common.{◌≡◌, ℕ, refl, ap, subst, sym, Err}
 use Rattle.std.specs.Global.{Vec}
 use Rattle.dfs_host.specs.declared.fault.Fault.TheVariants.{NoMemory}
 use Rattle.dfs_host.proofs.Causes.{none_yet}
@@ -8,10 +8,11 @@ use Rattle.dfs_script.specs.declared.LineFault.{LineFault}
 use Rattle.dfs_script.specs.declared.LineFault.TheVariants.{Long, Syntax}
 use Rattle.dfs_script.specs.Line.{meaning}
 use Rattle.dfs_script.specs.Read.{IsSaid}
-use Rattle.dfs_session.specs.Session.{after_meaning, step as step_of}
+use Rattle.dfs_session.specs.Session.{after_meaning}
 use Rattle.dfs_session.proofs.Choosing.{read_fault_worked}
 use Rattle.dfs_host.proofs.Moments.{reads_nothing}
-use Rattle.dfs_session.proofs.Publishing.{memory_not_full, memory_not_changed}
+use Rattle.dfs_session.specs.Worked.{of_line, settings_by}
+use Rattle.dfs_session.proofs.Handed.{memory_not_full}
 use Rattle.dfs_session.proofs.Working.{memory_cause, stays_in_memory}
 use Rattle.dfs_session.proofs.session.Session.work.Goals as goal
 
@@ -21,7 +22,7 @@ returns-in-Err-Long g c =
     let session = c.args.self.now in
     let line = c.args.line.now in
     let is : meaning line ≡ Err Long = subst (λ (fault : LineFault). IsSaid (Err fault) (meaning line)) c.in-Err-Long.field-0-is c.in-Err-Long.ensures.meaning in
-    stays_in_memory host session session.jobs (λ s. step_of s line) (Error word.Long) c.text_of.result refl c.requires (λ s tells stands. ap (after_meaning s) is) c.text_of.ensures.text c.text_of.ensures.memory
+    stays_in_memory host session session.jobs (of_line line) (Error word.Long) c.text_of.result refl (sym (ap (λ m. settings_by session.settings m) is)) c.requires (λ s tells stands. ap (after_meaning s) is) c.text_of.ensures.text c.text_of.ensures.memory
 
 pub returns-in-Err-Syntax : goal.returns-in-Err-Syntax
 returns-in-Err-Syntax g c =
@@ -29,10 +30,10 @@ returns-in-Err-Syntax g c =
     let session = c.args.self.now in
     let line = c.args.line.now in
     let is : meaning line ≡ Err Syntax = subst (λ (fault : LineFault). IsSaid (Err fault) (meaning line)) c.in-Err-Syntax.field-0-is c.in-Err-Syntax.ensures.meaning in
-    stays_in_memory host session session.jobs (λ s. step_of s line) (Error word.Syntax) c.text_of-in-Err-Syntax.result refl c.requires (λ s tells stands. ap (after_meaning s) is) c.text_of-in-Err-Syntax.ensures.text c.text_of-in-Err-Syntax.ensures.memory
+    stays_in_memory host session session.jobs (of_line line) (Error word.Syntax) c.text_of-in-Err-Syntax.result refl (sym (ap (λ m. settings_by session.settings m) is)) c.requires (λ s tells stands. ap (after_meaning s) is) c.text_of-in-Err-Syntax.ensures.text c.text_of-in-Err-Syntax.ensures.memory
 
 pub returns-in-Err-NoMemory : goal.returns-in-Err-NoMemory
 returns-in-Err-NoMemory g c =
     let host = g.H.Host.state c.args.host.now in
     let session = c.args.self.now in
-    read_fault_worked {T = Vec ℕ} host host session (λ s. step_of s c.args.line.now) NoMemory c.requires (reads_nothing host) (memory_cause (Err NoMemory) (none_yet host) refl) memory_not_full memory_not_changed
+    read_fault_worked {T = Vec ℕ} host host session (of_line c.args.line.now) NoMemory c.requires (reads_nothing host) (memory_cause (Err NoMemory) (none_yet host) refl) memory_not_full

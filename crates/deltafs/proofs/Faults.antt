@@ -1,6 +1,6 @@
 -- What a line leaves, by its answer.
 use Rattle.std.proofs.Common.{◌≡◌, ◌∙◌, ℕ, List, [], ◌++◌, take, ap, sym, refl, subst, append-nil, append_assoc, arith}
-use Rattle.std.specs.Prelude.{Result, Ok, Err, IfErr, OnOk, Some, Option}
+use Rattle.std.specs.Prelude.{IsErrOf, Result, Ok, Err, IfErr, OnOk, Some, Option}
 use Rattle.dfs_host.specs.Host.{HostState, said_of}
 use Rattle.dfs_host.specs.declared.fault.Fault.TheVariants as fault
 use Rattle.dfs_registry.specs.declared.fault.RegFault.{RegFault}
@@ -21,11 +21,20 @@ abbrev IsOutput : Stop → Type 0
 IsOutput stop.Output = Unit {0}
 IsOutput (stop.Fault f) = ⊥
 
+abbrev IsNoFull : Result (Unit {0}) Stop → Type 0
+IsNoFull (Err (stop.Fault fault.LogFull)) = ⊥
+IsNoFull result = Unit {0}
+
 -- a line whose reply was said, or not in full, was worked all the same
 pub leaves_said : (result : Result (Unit {0}) Stop) (before after : Registry) (files : Option Registry) → IfErr result (λ s. s ≡ stop.Output) → files ≡ Some after → LeavesFiles result before after files
 leaves_said (Ok u) before after files only is = is
 leaves_said (Err stop.Output) before after files only is = is
 leaves_said (Err (stop.Fault f)) before after files only is = absurd (subst IsOutput (sym only) tt)
+
+-- saying meets no full log
+pub output_alone : (result : Result (Unit {0}) Stop) → IfErr result (λ s. s ≡ stop.Output) → IsErrOf result (stop.Fault fault.LogFull) → ⊥
+output_alone (Ok u) only is = subst IsNoFull is tt
+output_alone (Err s) only is = subst IsNoFull (ap Err (sym only) ∙ is) tt
 
 pub on_ok : {T E P : Type 0} (result : Result T E) → P → OnOk result P
 on_ok (Ok x) p = p

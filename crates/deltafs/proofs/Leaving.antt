@@ -22,7 +22,7 @@ use Rattle.dfs_session.specs.Session.{Session, Registry, Step, opened, step}
 use Rattle.dfs_session.specs.Sound.{IsSound, listed_in}
 use Rattle.dfs_session.specs.Stands.{Stands, LogIsSettled}
 use Rattle.deltafs.specs.Keeps.{Keeps, IsOfLine}
-use Rattle.deltafs.specs.Lines.{IsReady, IsAfter}
+use Rattle.deltafs.specs.Lines.{IsAfter}
 use Rattle.deltafs.specs.Says.{IsPrompt}
 use Rattle.deltafs.specs.Starts.{StartsFrom}
 use Rattle.deltafs.proofs.Promises.{keeps_before, keeps_into}
@@ -82,10 +82,10 @@ keeps_line old script before line l after so_far image is cut said (inr at) =
     (at.holds ∙ ap (λ (t : Step). Some t.session.registry) same)
 
 -- between two lines every image keeps it
-pub keeps_now : (old : Registry) (taken more : List ℕ) (host : HostState) (session : LiveSession) → IsTrue host.tells → IsReady host session → IsAfter old (ended_lines taken) host session → (image : Image) → IsImage host.disk image → Keeps old (taken ++ more) image
+pub keeps_now : (old : Registry) (taken more : List ℕ) (host : HostState) (session : LiveSession) → IsTrue host.tells → IsSound host session → IsAfter old (ended_lines taken) host session → (image : Image) → IsImage host.disk image → Keeps old (taken ++ more) image
 keeps_now old taken more host session tells ready at image is =
     let c = lines_continue taken more in
-    keeps_before old (taken ++ more) (ended_lines taken) c.after c.cut image (is.said ∙ at.said) (image_holds host session (session_after (opened old) (ended_lines taken)) image tells ready.sound at.stands is)
+    keeps_before old (taken ++ more) (ended_lines taken) c.after c.cut image (is.said ∙ at.said) (image_holds host session (session_after (opened old) (ended_lines taken)) image tells ready at.stands is)
 
 -- The start.
 

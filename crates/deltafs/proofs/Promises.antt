@@ -10,20 +10,20 @@ use Rattle.std.specs.List.{count_by, list_all, join_with_byte}
 use Rattle.dfs_host.specs.Disk.{Image}
 use Rattle.dfs_record.specs.declared.SnapName.{SnapName}
 use Rattle.dfs_record.specs.KeyMap.{len}
-use Rattle.dfs_reply.specs.declared.Reply.TheVariants.{Ok as OkReply, Published}
+use Rattle.dfs_reply.specs.declared.Reply.TheVariants.{Ok as OkReply, Published, Stats as StatsReply}
 use Rattle.dfs_reply.specs.declared.Word.TheVariants as word
 use Rattle.dfs_reply.specs.Text.{text}
 use Rattle.dfs_script.specs.declared.JobWord.{JobWord}
 use Rattle.dfs_script.specs.declared.Line.{Line}
-use Rattle.dfs_script.specs.declared.Line.TheVariants.{Nothing, Snapshots, Begin, Space, Publish, End}
+use Rattle.dfs_script.specs.declared.Line.TheVariants.{Nothing, Set, Snapshots, Begin, Space, Flush, Stats, Publish, End}
 use Rattle.dfs_script.specs.declared.LineFault.{LineFault}
 use Rattle.dfs_script.specs.declared.LineFault.TheVariants.{Long, Syntax, NoMemory}
 use Rattle.dfs_script.specs.Line.{meaning}
 use Rattle.dfs_script.specs.Script.{lines_of}
 use Rattle.dfs_session.specs.Files.{value}
-use Rattle.dfs_session.specs.Job.{Job, does, own_changes}
+use Rattle.dfs_job.specs.Job.{Job, after_flush, does, key_count, own_changes, run_count}
 use Rattle.dfs_session.specs.Run.{session_after, written, output, Promise, promise_of, promises, published}
-use Rattle.dfs_session.specs.Session.{Session, Publication, Registry, Step, opened, step, after_meaning, after_command, begins, begins_unless, chosen, is_damaged, is_full, is_published, live_job, of_live, operates, publication_by, publishes, publishes_anew, refused, without_job}
+use Rattle.dfs_session.specs.Session.{Session, Publication, Registry, Step, opened, step, after_meaning, after_command, begins, begins_unless, chosen, is_damaged, is_full, is_published, live_job, of_live, operates, publication_by, publishes, publishes_anew, refused, stays, with_job, without_job}
 use Rattle.dfs_session.proofs.Runs.{written-append, promises-append}
 use Rattle.deltafs.specs.Keeps.{acknowledged, IsAhead, Keeps}
 
@@ -71,7 +71,10 @@ of_live_adds (Some j) s f each = each j
 
 command_adds : (s : Session) (line : Line) → Adds s.registry (after_command s line)
 command_adds s Nothing = inl refl
+command_adds s (Set what value) = inl refl
 command_adds s Snapshots = inl refl
+command_adds s (Flush w) = of_live_adds (live_job s w) s (λ j. record { session = with_job s w (after_flush j); reply = OkReply }) (λ j. inl refl)
+command_adds s (Stats w) = of_live_adds (live_job s w) s (λ j. stays s (StatsReply (run_count j) (key_count j))) (λ j. inl refl)
 command_adds s (Begin w names) = begins_adds s w names
 command_adds s (Space w op) = of_live_adds (live_job s w) s (λ j. operates s w j (does j op)) (λ j. inl refl)
 command_adds s (Publish w name) = of_live_adds (live_job s w) s (λ j. publishes s w j name) (λ j. publishes_adds s w j name)

@@ -1,9 +1,9 @@
 -- The causes of a run's status, and the counts that it leaves.
-use Rattle.std.specs.Prelude.{◌≡◌, ◌≤◌, ℕ}
+use Rattle.std.specs.Prelude.{◌≡◌, ◌≢◌, ◌≤◌, ℕ, IsTrue}
 use Rattle.dfs_host.specs.Counts.{Rose}
 use Rattle.dfs_host.specs.Host.{HostState, now}
 use Rattle.deltafs.specs.declared.status.Status.{Status}
-use Rattle.deltafs.specs.declared.status.Status.TheVariants.{Usage, NotRegistry, RegistryDamaged, DiskFault, OutputFault, SourceFault, LogFull, Changed}
+use Rattle.deltafs.specs.declared.status.Status.TheVariants.{Usage, NotRegistry, RegistryDamaged, DiskFault, OutputFault, SourceFault, Changed}
 
 -- the count of faults of the files
 abbrev pub DiskFaultsOf : Status → ℕ → ℕ → Type 0
@@ -27,12 +27,13 @@ pub record HasCause (status : Status) (old new : HostState) : Type 0 where
   pub disk_faults : DiskFaultsOf status old.disk_faults new.disk_faults
   pub say_faults : SayFaultsOf status old.say_faults new.say_faults
   pub reads : old.reads ≤ new.reads
+  -- a block that was read again was another one: never where the host tells
+  pub changed : status ≡ Changed → Rose old.reads new.reads
+  pub never_changed : IsTrue old.tells → status ≢ Changed
 
--- a status that the lines of a script may end with: no log has a limit that its job could meet, and no block is read again
+-- a status that the lines of a script may end with
 abbrev pub IsOfLines : Status → Type 0
 IsOfLines Usage = ⊥
 IsOfLines NotRegistry = ⊥
 IsOfLines (RegistryDamaged place) = ⊥
-IsOfLines LogFull = ⊥
-IsOfLines Changed = ⊥
 IsOfLines status = Unit {0}

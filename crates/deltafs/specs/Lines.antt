@@ -1,24 +1,20 @@
 -- What the lines of a script leave, one after the other.
-use Rattle.std.specs.Prelude.{◌≡◌, ℕ, List, ◌++◌, take, Option, Some, Result, Ok, Err}
+use Rattle.std.specs.Prelude.{◌≡◌, ℕ, List, ◌++◌, take, Option, Some, Result, Ok, Err, IsErrOf}
 use Rattle.dfs_host.specs.Host.{HostState, said_of}
 use Rattle.dfs_host.specs.declared.fault.Fault.TheVariants as fault
 use Rattle.dfs_reply.specs.Text.{text}
 use Rattle.dfs_session.specs.declared.session.Session.{Session as LiveSession}
 use Rattle.dfs_session.specs.Files.{value_on}
 use Rattle.dfs_session.specs.Run.{session_after, written}
-use Rattle.dfs_session.specs.Session.{Registry, Step, opened, default_settings}
-use Rattle.dfs_session.specs.Sound.{IsSound}
+use Rattle.dfs_script.specs.Line.{meaning}
+use Rattle.dfs_session.specs.Session.{Registry, Session, opened, step}
 use Rattle.dfs_session.specs.Stands.{Stands, LeavesValue}
+use Rattle.dfs_session.specs.Worked.{IsShort, job_by}
 use Rattle.deltafs.specs.declared.status.Status.{Status}
 use Rattle.deltafs.specs.declared.status.Status.TheVariants.{Done, DiskFault, OutputFault, NoMemory, LogFull, Changed}
 use Rattle.deltafs.specs.declared.status.Stop.{Stop}
 use Rattle.deltafs.specs.declared.status.Stop.TheVariants as stop
 use Rattle.deltafs.specs.Says.{Says}
-
--- a session that may work a line of a run
-pub record IsReady (host : HostState) (session : LiveSession) : Type 0 where
-  pub sound : IsSound host session
-  pub settings : session.settings ≡ default_settings
 
 -- These lines were worked over an old registry: their replies were said, and the session and the files stand for what they left.
 pub record IsAfter (old : Registry) (lines : List (List ℕ)) (host : HostState) (session : LiveSession) : Type 0 where
@@ -55,10 +51,11 @@ LeavesFiles (Ok _) before after files = files ≡ Some after
 LeavesFiles (Err (stop.Fault f)) before after files = LeavesValue {T = Unit {0}} (Err f) before after files
 LeavesFiles (Err stop.Output) before after files = files ≡ Some after
 
--- what a line leaves that did a step, where so much was said before
-pub record Leaves (result : Result (Unit {0}) Stop) (before : Registry) (t : Step) (so_far : List ℕ) (host : HostState) : Type 0 where
-  pub said : SaysReply result (text t.reply) so_far (said_of host)
-  pub files : LeavesFiles result before t.session.registry (value_on host)
+-- What a line leaves, where so much was said before. A log was full only where it is too short for its job.
+pub record Leaves (result : Result (Unit {0}) Stop) (s : Session) (line : List ℕ) (so_far : List ℕ) (host : HostState) : Type 0 where
+  pub said : SaysReply result (text (step s line).reply) so_far (said_of host)
+  pub files : LeavesFiles result s.registry (step s line).session.registry (value_on host)
+  pub short : IsErrOf result (stop.Fault fault.LogFull) → IsShort (job_by s (meaning line))
 
 -- The lines so far were worked, or the run stopped at one of them.
 abbrev pub Goes : Result (Unit {0}) Stop → Registry → List (List ℕ) → List ℕ → List ℕ → HostState → LiveSession → Type 0

@@ -5,7 +5,7 @@ mod Images
 mod Opening
 mod Faults
 mod Jobs
-mod Kept
+pub mod Kept
 mod Handed
 mod Working
 mod Changing

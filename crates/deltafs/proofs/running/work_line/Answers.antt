@@ -4,16 +4,15 @@ use Rattle.dfs_host.specs.Host.{said_of}
 use Rattle.dfs_reply.specs.Text.{text}
 use Rattle.dfs_session.specs.Session.{step}
 use Rattle.deltafs.specs.Lines.{SaysReply}
-use Rattle.deltafs.proofs.Faults.{on_ok, leaves_said, says_reply}
-use Rattle.deltafs.proofs.Hosts.{ready_stays, stands_stays, value_stays}
+use Rattle.deltafs.proofs.Faults.{on_ok, leaves_said, output_alone, says_reply}
+use Rattle.deltafs.proofs.Hosts.{sound_stays, stands_stays, value_stays}
 use Rattle.deltafs.proofs.Leaving.{stepped, replied}
 use Rattle.deltafs.proofs.running.work_line.Goals as goal
 
 pub returns-in-Ok-clause-ready : goal.returns-in-Ok-clause-ready
 returns-in-Ok-clause-ready g c =
     on_ok c.say.result
-    (ready_stays (g.H.Host.state c.step.new.host) (g.H.Host.state c.say.new.host) c.step.new.self c.say.ensures.cause.tells c.say.ensures.files
-    (record { sound = c.in-Ok.ensures.sound; settings = c.in-Ok.ensures.settings ∙ c.requires.settings }))
+    (sound_stays (g.H.Host.state c.step.new.host) (g.H.Host.state c.say.new.host) c.step.new.self c.say.ensures.cause.tells c.say.ensures.files c.in-Ok.ensures.sound)
 
 pub returns-in-Ok-clause-stands : goal.returns-in-Ok-clause-stands
 returns-in-Ok-clause-stands g c s tells stands =
@@ -34,6 +33,7 @@ returns-in-Ok-clause-leaves g c s tells stands =
       files =
           leaves_said c.say.result _ _ _ c.say.ensures.fault
           (value_stays (g.H.Host.state c.step.new.host) (g.H.Host.state c.say.new.host) (c.say.ensures.files mid_tells) ∙ c.in-Ok.ensures.value s tells stands);
+      short = λ is. absurd (output_alone c.say.result c.say.ensures.fault is);
     }
 
 pub returns-in-Ok-clause-images : goal.returns-in-Ok-clause-images

@@ -3,7 +3,6 @@ use Rattle.std.proofs.Common.{◌≡◌, ◌≢◌, ℕ, List, [], ◌∷◌, le
 use Rattle.std.specs.Prelude.{IsTrue}
 use Rattle.std.specs.List.{AllByRecursion, AllZip}
 use Rattle.dfs_host.specs.Host.{HostState, Only, bytes_of}
-use Rattle.dfs_record.specs.declared.Record.{Record}
 use Rattle.dfs_record.specs.Delta.{Delta}
 use Rattle.dfs_log.specs.Logs.{LogState, LogStands, log_header}
 use Rattle.dfs_change.specs.declared.change.Change.{Change}

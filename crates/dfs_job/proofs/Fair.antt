@@ -1,9 +1,9 @@
 -- The identities of a job's records.
-use Rattle.std.proofs.Common.{◌≡◌, ◌∙◌, ◌≤◌, ◌<◌, ◌+◌, ℕ, suc, zero, Bool, true, List, [], ◌∷◌, ◌++◌, refl, sym, ap, subst, arith, append-nil}
+use Rattle.std.proofs.Common.{◌≡◌, ◌∙◌, ◌<◌, ℕ, suc, zero, true, List, [], ◌∷◌, refl, sym, ap, subst, arith, append-nil}
 use Rattle.std.specs.Prelude.{All, flat_map, nat_le}
 use Rattle.std.specs.List.{AllByRecursion, AllZip}
 use Rattle.std.proofs.lemmas.Bool.{le-leb, leb-true, and_from, and_parts}
-use Rattle.dfs_host.specs.Host.{HostState, bytes_of}
+use Rattle.dfs_host.specs.Host.{HostState}
 use Rattle.dfs_record.specs.declared.DirId.{DirId}
 use Rattle.dfs_record.specs.declared.Entry.TheVariants.{Dir, File}
 use Rattle.dfs_record.specs.declared.Record.{Record}
@@ -23,7 +23,7 @@ use Rattle.dfs_change.specs.declared.change.Change.{Change}
 use Rattle.dfs_change.specs.Identities.{AreFit, FitsJob}
 use Rattle.dfs_table.specs.Identities.{is_value_within}
 use Rattle.dfs_table.proofs.Stays.{all_append, all_weaker}
-use Rattle.dfs_view.specs.Lists.{add_all, joined}
+use Rattle.dfs_view.specs.Lists.{joined}
 use Rattle.dfs_job.specs.declared.settings.Settings.{Settings}
 use Rattle.dfs_job.specs.Job.{Job, after, after_flush, begun, does, first_ids, namespace_of}
 use Rattle.dfs_job.specs.Stands.{IsEarlier, IsFair, IsSelectable, IsStoredFor}

@@ -1,6 +1,6 @@
 -- What a job keeps as its layers go on.
-use Rattle.std.proofs.Common.{◌≡◌, ◌≢◌, ◌∙◌, ◌≤◌, ◌<◌, ◌+◌, ◌*◌, ◌^◌, ℕ, List, [], ◌∷◌, length, map, refl, sym, ap, subst, arith}
-use Rattle.std.specs.Prelude.{true, false, IsTrue, IsFalse}
+use Rattle.std.proofs.Common.{◌≡◌, ◌≢◌, ◌∙◌, ◌≤◌, ◌<◌, ◌+◌, ◌^◌, ℕ, List, [], ◌∷◌, length, map, refl, sym, ap, subst, arith}
+use Rattle.std.specs.Prelude.{true, IsTrue, IsFalse}
 use Rattle.std.specs.List.{AllByRecursion, AllZip, sum_by}
 use Rattle.dfs_host.specs.Host.{HostState, Only, bytes_of}
 use Rattle.dfs_buffer.specs.Buffer.{Buffered, StandsFor, nothing}
@@ -13,7 +13,6 @@ use Rattle.dfs_ops.specs.declared.Ids.{Ids}
 use Rattle.dfs_ops.specs.Op.{AreIds, Outcome, ids_after, outcome}
 use Rattle.dfs_change.specs.declared.change.Change.{Change}
 use Rattle.dfs_table.proofs.Stays.{all_append, all_weaker}
-use Rattle.dfs_view.specs.declared.layers.Layers.{Layers}
 use Rattle.dfs_table.specs.declared.run.Run.{Run}
 use Rattle.dfs_view.specs.Layers.{AreFit, AreStored, LiesIn, Stand, StandFor, layers_map, own_runs, run_count, selected}
 use Rattle.dfs_view.specs.Lists.{Layered, add_all, flushed}

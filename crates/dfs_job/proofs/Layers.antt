@@ -1,7 +1,7 @@
 -- The records of layers, whatever was closed, and what they leave.
-use Rattle.std.proofs.Common.{◌≡◌, ◌∙◌, ◌≤◌, ◌+◌, ◌==◌, ℕ, Bool, true, false, if◌then◌else◌, List, [], ◌∷◌, ◌++◌, length, refl, sym, ap, subst, arith, append_assoc, append-nil}
+use Rattle.std.proofs.Common.{◌≡◌, ◌∙◌, ◌≤◌, ◌+◌, ◌==◌, ℕ, Bool, true, false, if◌then◌else◌, List, [], ◌∷◌, ◌++◌, length, refl, sym, ap, arith, append_assoc, append-nil}
 use Rattle.std.specs.Prelude.{flat_map, fold}
-use Rattle.std.specs.List.{AllByRecursion, sum_by}
+use Rattle.std.specs.List.{AllByRecursion}
 use Rattle.std.specs.declared.cmp.Ordering.{Ordering}
 use Rattle.std.specs.declared.cmp.Ordering.TheVariants.{Less, Equal, Greater}
 use Rattle.std.specs.FinMap.Entries.{put, by_order}
@@ -10,7 +10,7 @@ use Rattle.std.proofs.lemmas.List.Sums.{fold-append}
 use Rattle.dfs_record.specs.declared.Key.{Key}
 use Rattle.dfs_record.specs.declared.Record.{Record}
 use Rattle.dfs_record.specs.declared.Value.{Value}
-use Rattle.dfs_record.specs.Delta.{Delta, delta, last_value, or_else, records_of, with_record}
+use Rattle.dfs_record.specs.Delta.{Delta, delta, or_else, records_of, with_record}
 use Rattle.dfs_record.specs.Key.{key_cmp}
 use Rattle.dfs_record.specs.KeyMap.{empty, get, len}
 use Rattle.dfs_record.specs.Namespace.{Namespace, after_records, replay}

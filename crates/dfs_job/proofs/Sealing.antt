@@ -1,5 +1,5 @@
 -- Runs that are sealed as one.
-use Rattle.std.proofs.Common.{◌≡◌, ◌∙◌, ◌≤◌, ◌+◌, ◌*◌, ℕ, suc, zero, List, [], ◌∷◌, ◌++◌, length, take, map, refl, sym, ap, subst, arith, append-nil, length-append}
+use Rattle.std.proofs.Common.{◌≡◌, ◌∙◌, ◌≤◌, ◌+◌, ℕ, suc, zero, List, [], ◌∷◌, ◌++◌, length, take, map, refl, sym, ap, subst, arith, append-nil, length-append}
 use Rattle.std.specs.Prelude.{Option, Some, None, IsSomeAnd, Result, Ok, Err, IfOk, flat_map, slice_get, filter}
 use Rattle.std.specs.List.{AllByRecursion, sum_by}
 use Rattle.std.proofs.lemmas.List.{length-map, take_more, take_all}
@@ -11,7 +11,6 @@ use Rattle.dfs_record.specs.declared.Record.{Record}
 use Rattle.dfs_record.specs.Delta.{Delta, delta, records_of}
 use Rattle.dfs_record.specs.KeyMap.{len}
 use Rattle.dfs_record.proofs.Replays.{delta-records_of}
-use Rattle.dfs_block.specs.Block.{IsBlock}
 use Rattle.dfs_fence.specs.declared.fence.Fence.{Fence}
 use Rattle.dfs_fence.specs.Ranges.{meets}
 use Rattle.dfs_table.specs.declared.run.Run.{Run}

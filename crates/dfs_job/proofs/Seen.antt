@@ -9,14 +9,13 @@ use Rattle.dfs_host.specs.Host.{HostState, bytes_of}
 use Rattle.dfs_record.specs.declared.Record.{Record}
 use Rattle.dfs_record.specs.Delta.{Delta, delta, records_of}
 use Rattle.dfs_record.specs.KeyMap.{empty}
-use Rattle.dfs_record.specs.Namespace.{after_records, replay}
+use Rattle.dfs_record.specs.Namespace.{after_records}
 use Rattle.dfs_log.specs.Logs.{LogStands}
 use Rattle.dfs_change.specs.declared.change.Change.{Change}
 use Rattle.dfs_table.specs.declared.run.Run.{Run}
 use Rattle.dfs_table.proofs.Stays.{all_append, all_behind, all_front}
 use Rattle.dfs_view.specs.declared.layers.Layers.{Layers}
-use Rattle.dfs_view.specs.Layers.{AreStored, LiesIn, Stand, StandFor, layers_map, own_runs, records_on, runs_of, selected}
-use Rattle.dfs_view.specs.Lists.{Layered, joined}
+use Rattle.dfs_view.specs.Layers.{AreStored, LiesIn, Stand, layers_map, own_runs, records_on, runs_of, selected}
 use Rattle.dfs_view.proofs.Parts.{records_in_file}
 use Rattle.dfs_job.specs.declared.job.Job.{Job as LiveJob}
 use Rattle.dfs_job.specs.Job.{Job, namespace_of}

@@ -1,7 +1,6 @@
 -- A job: the change sets that it selected, and its own records in layers.
 use Rattle.std.specs.Prelude.{ℕ, ◌+◌, ◌*◌, List, [], length}
 use Rattle.std.specs.List.{sum_by}
-use Rattle.dfs_record.specs.declared.Record.{Record}
 use Rattle.dfs_record.specs.Delta.{Delta, delta}
 use Rattle.dfs_record.specs.KeyMap.{len}
 use Rattle.dfs_record.specs.Namespace.{Namespace, replay}

@@ -1,8 +1,8 @@
 -- What a job in memory and the files of a host stand for, and what is so of every job.
-use Rattle.std.specs.Prelude.{◌≡◌, ◌≤◌, ◌<◌, ◌+◌, ◌*◌, ℕ, List, IsFalse}
+use Rattle.std.specs.Prelude.{◌≡◌, ◌≤◌, ◌<◌, ◌+◌, ◌*◌, ℕ, IsFalse}
 use Rattle.std.specs.List.{AllByRecursion, AllZip}
 use Rattle.dfs_host.specs.Host.{HostState, Told, bytes_of}
-use Rattle.dfs_record.specs.Delta.{Delta, records_of}
+use Rattle.dfs_record.specs.Delta.{Delta}
 use Rattle.dfs_table.specs.Stored.{IsStored}
 use Rattle.dfs_change.specs.declared.change.Change.{Change}
 use Rattle.dfs_change.specs.Identities.{AreFit as AreOfJob, FitsJob}

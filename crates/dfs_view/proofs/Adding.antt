@@ -24,7 +24,7 @@ use Rattle.dfs_table.proofs.Stays.{all_append, all_weaker, run_stays, tables_sta
 use Rattle.dfs_view.specs.declared.layers.Layers.{Layers}
 use Rattle.dfs_view.specs.Layers.{AreFit, AreStored, LiesIn, Stand, StandFor, entry_left, layers_map, own_runs, records_on, run_count, runs_of}
 use Rattle.dfs_view.specs.Lists.{Layered, add_all, closed_by, flushed}
-use Rattle.dfs_view.specs.View.{Closes, GoesOn, IsClosed, Parts, ViewFollows, WorksOn, closed_count, pair_of}
+use Rattle.dfs_view.specs.View.{Closes, GoesOn, IsClosed, Parts, ViewFollows, WorksOn, pair_of}
 use Rattle.dfs_view.proofs.Parts.{records_in_file}
 
 pub on_ok : {T E P Q : Type 0} (result : Result T E) → OnOk result P → (P → Q) → OnOk result Q
@@ -267,7 +267,7 @@ pub closes_with_one : (host : HostState) (old : Layers) (b : Buffered) (r : Reco
 closes_with_one host old b r room most full stands_more l stands =
     let stood = stands_more l.open_ stands.open_ in
     let here : (length (l.open_ ++ r ∷ []) == old.limit) ≡ true
-        = is_full (length (l.open_ ++ r ∷ [])) (length l.open_) old.limit (omega (arith, length-append l.open_ (r ∷ []))) (subst (λ n. n < old.limit) stands.open_.made room) (subst (λ n. old.limit ≤ n) stood.made full) most in
+    = is_full (length (l.open_ ++ r ∷ [])) (length l.open_) old.limit (omega (arith, length-append l.open_ (r ∷ []))) (subst (λ n. n < old.limit) stands.open_.made room) (subst (λ n. old.limit ≤ n) stood.made full) most in
     record {
       records = l.open_ ++ r ∷ [];
       stood = stood;

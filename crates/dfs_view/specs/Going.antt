@@ -6,7 +6,6 @@ use Rattle.std.proofs.lemmas.List.{take_all, take-take, length-take, append-nil}
 use Rattle.dfs_host.specs.Host.{bytes_of, Only}
 use Rattle.dfs_host.proofs.Moments.{nothing_done, only_goes_on}
 use Rattle.dfs_record.specs.declared.Record.{Record}
-use Rattle.dfs_table.specs.declared.run.Run.{Run}
 use Rattle.dfs_table.proofs.Stays.{all_append}
 use Rattle.dfs_view.specs.Lists.{Layered, add_one, add_all}
 use Rattle.dfs_view.specs.Layers.{AreFit, StandFor, own_runs}

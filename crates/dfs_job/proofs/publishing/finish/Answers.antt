@@ -1,4 +1,4 @@
-use Rattle.std.proofs.Common.{◌∙◌, arith, length}
+use Rattle.std.proofs.Common.{◌∙◌, arith}
 use Rattle.dfs_host.specs.Host.{bytes_of}
 use Rattle.dfs_change.specs.Sealing.{entry_of}
 use Rattle.dfs_job.proofs.Sealing.{manifest_cost, ok_then, sealed_means, sealed_within, stored_count}

@@ -1,6 +1,4 @@
-use Rattle.std.proofs.Common.{arith, length, map, ◌≡◌, ◌≤◌, ap}
-use Rattle.std.specs.List.{sum_by}
-use Rattle.dfs_view.specs.Layers.{run_count}
+use Rattle.std.proofs.Common.{arith, length, ap}
 use Rattle.dfs_view.specs.Sources.{run_rest}
 use Rattle.dfs_view.proofs.Parts.{none_unread, ok_to}
 use Rattle.dfs_job.proofs.Sealing.{merged_all, merged_few, ok_then}

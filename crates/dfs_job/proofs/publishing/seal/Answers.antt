@@ -4,7 +4,7 @@ use Rattle.dfs_host.specs.Host.{Only, bytes_of}
 use Rattle.dfs_host.proofs.Moments.{only_goes_on}
 use Rattle.dfs_record.specs.Delta.{delta}
 use Rattle.dfs_record.specs.declared.Record.{Record}
-use Rattle.std.specs.Prelude.{flat_map, slice_get, Some}
+use Rattle.std.specs.Prelude.{flat_map}
 use Rattle.dfs_change.specs.Identities.{AreFit}
 use Rattle.dfs_table.specs.Stored.{IsStored}
 use Rattle.dfs_view.specs.Layers.{AreStored, own_runs}

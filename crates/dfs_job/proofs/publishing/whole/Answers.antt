@@ -1,7 +1,5 @@
-use Rattle.std.proofs.Common.{arith, length, map}
+use Rattle.std.proofs.Common.{arith, map}
 use Rattle.std.proofs.lemmas.List.{length-map}
-use Rattle.std.specs.List.{sum_by}
-use Rattle.dfs_view.specs.Layers.{run_count}
 use Rattle.dfs_view.specs.Sources.{run_rest}
 use Rattle.dfs_job.proofs.Sealing.{count_most, few_next, loaded, rests_end, rests_next, run_is}
 use Rattle.dfs_job.proofs.publishing.whole.Goals as goal

@@ -3,8 +3,7 @@ use Rattle.std.specs.List.{AllByRecursion}
 use Rattle.dfs_host.specs.Host.{Only}
 use Rattle.dfs_host.proofs.Moments.{only_goes_on}
 use Rattle.dfs_change.specs.Identities.{FitsJob}
-use Rattle.dfs_view.specs.Lists.{flushed, joined}
-use Rattle.dfs_view.specs.Layers.{own_runs}
+use Rattle.dfs_view.specs.Lists.{flushed}
 use Rattle.dfs_job.proofs.Layers.{flushed_closed}
 use Rattle.dfs_job.proofs.job.Job.publish_tables.Goals as goal
 

@@ -6,6 +6,7 @@ pub mod Finding
 pub mod Joining
 pub mod Lengths
 pub mod Opening
+pub mod Passing
 pub mod Rising
 pub mod Running
 pub mod Searching

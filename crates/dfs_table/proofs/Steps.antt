@@ -112,11 +112,11 @@ module _ {place : ℕ} {old new : WriterState} (step : ClosesBlock place old new
 
 module _ {place : ℕ} {old new : WriterState} (step : ClosesBlock place old new) where
   pub added_block : AddsBlock old new
-  added_block = record { fence = step.fence; fences = block_fences place old new step; count = step.states.count }
+  added_block = record { fence = step.fence; fences = block_fences place old new step; count = step.states.count; first = step.states.first; last = step.states.last }
 
   module _ {job at : ℕ} {end : WriterState} (next : ClosesTable job at new end) where
     pub added_block_before : AddsBlock old end
-    added_block_before = record { fence = step.fence; fences = table_fences job at new end next ∙ block_fences place old new step; count = step.states.count }
+    added_block_before = record { fence = step.fence; fences = table_fences job at new end next ∙ block_fences place old new step; count = step.states.count; first = step.states.first; last = step.states.last }
 
     pub added_table : AddsTable old end.closed
     added_table = record {
@@ -125,6 +125,8 @@ module _ {place : ℕ} {old new : WriterState} (step : ClosesBlock place old new
       tables = next.closed ∙ ap (λ ts. ts ++ next.table ∷ []) step.closed;
       fences = next.table_fences ∙ step.fences;
       count = step.states.count;
+      first = step.states.first;
+      last = step.states.last;
     }
 
 -- ---- what the steps cost

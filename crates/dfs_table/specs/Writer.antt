@@ -1,9 +1,9 @@
 -- What a writer of tables is seen as, and what it is to stand in the bytes of a file.
-use Rattle.std.specs.Prelude.{◌≡◌, ◌≤◌, ◌<◌, ◌+◌, ◌*◌, ◌⊎◌, ℕ, Bool, false, List, [], ◌∷◌, ◌++◌, length, take, Some}
+use Rattle.std.specs.Prelude.{◌≡◌, ◌≤◌, ◌<◌, ◌+◌, ◌*◌, ◌⊎◌, ℕ, Bool, true, false, List, [], ◌∷◌, ◌++◌, length, take, Some}
 use Rattle.std.specs.List.{AllByRecursion, sum_by}
 use Rattle.dfs_record.specs.declared.Key.{Key}
 use Rattle.dfs_record.specs.declared.Record.{Record}
-use Rattle.dfs_block.specs.Block.{block_bytes, first_key, most_bytes}
+use Rattle.dfs_block.specs.Block.{block_bytes, first_key, last_key, most_bytes}
 use Rattle.dfs_fence.specs.declared.fence.Fence.{Fence}
 use Rattle.dfs_fence.specs.Index.{AreApart, IsAboveLast, last_end, most_fences}
 use Rattle.dfs_table.specs.declared.table.Table.{Table}
@@ -61,6 +61,14 @@ IsFull t = length t.fences ≡ most_fences
 abbrev pub AreIn : ℕ → List Table → Type 0
 AreIn file ts = AllByRecursion (λ t. t.file ≡ file) ts
 
+-- the first and the last key of the block pass the test
+abbrev pub EndsPass : (Key → Bool) → Fence → Type 0
+EndsPass p f = (p f.first ≡ true) × (p f.last ≡ true)
+
+-- the key of the record passes the test
+abbrev pub KeyPasses : (Key → Bool) → Record → Type 0
+KeyPasses p r = p r.key ≡ true
+
 -- the next record goes into the block under way
 abbrev pub Fits : WriterState → Record → Type 0
 Fits w r = length (block_bytes (w.records ++ r ∷ [])) ≤ most_bytes
@@ -87,6 +95,8 @@ pub record AddsBlock (old new : WriterState) : Type 0 where
   pub fence : Fence
   pub fences : fences_of new ≡ fences_of old ++ fence ∷ []
   pub count : fence.count ≡ length old.records
+  pub first : first_key old.records ≡ Some fence.first
+  pub last : last_key old.records ≡ Some fence.last
 
 -- The records not yet written became the last block of the table under way, which became the last one of these tables.
 pub record AddsTable (w : WriterState) (ts : List Table) : Type 0 where
@@ -95,6 +105,8 @@ pub record AddsTable (w : WriterState) (ts : List Table) : Type 0 where
   pub tables : ts ≡ w.closed ++ table ∷ []
   pub fences : table.fences ≡ w.fences ++ fence ∷ []
   pub count : fence.count ≡ length w.records
+  pub first : first_key w.records ≡ Some fence.first
+  pub last : last_key w.records ≡ Some fence.last
 
 -- what is so of each writer that is not spent
 pub record IsSound (w : WriterState) : Type 0 where

@@ -1,5 +1,6 @@
 -- Records of a source that are being written to a log as a run.
-use Rattle.std.specs.Prelude.{◌≡◌, ◌≤◌, ◌+◌, ◌*◌, ◌++◌, false, List, length, Some}
+use Rattle.std.specs.Prelude.{◌≡◌, ◌≤◌, ◌+◌, ◌*◌, ◌++◌, Bool, false, List, length, Some}
+use Rattle.std.specs.List.{AllByRecursion}
 use Rattle.dfs_host.specs.Fault.{NoFault}
 use Rattle.dfs_host.specs.Host.{HostState, Told, bytes_of}
 use Rattle.dfs_record.specs.declared.Key.{Key}
@@ -7,7 +8,7 @@ use Rattle.dfs_record.specs.declared.Record.{Record}
 use Rattle.dfs_block.specs.Block.{IsAboveLast, first_key, last_key}
 use Rattle.dfs_log.specs.Logs.{LogState, LogStands}
 use Rattle.dfs_table.specs.Appending.{Appends}
-use Rattle.dfs_table.specs.Writer.{AreIn, IsSound, WriterStands, WriterState, count_in, owed, pushed}
+use Rattle.dfs_table.specs.Writer.{AreIn, EndsPass, IsSound, KeyPasses, WriterStands, WriterState, count_in, fences_of, owed, pushed}
 
 -- Of these records all but the rest were given to the writer.
 pub record IsWriting (start now : HostState) (log_start log : LogState) (all rest : List Record) (w : WriterState) : Type 0 where
@@ -24,3 +25,5 @@ pub record IsWriting (start now : HostState) (log_start log : LogState) (all res
   pub growth : log.len + owed w ≤ log_start.len + 1100 * count_in w
   pub left : Appends start now log_start log
   pub no_fault : NoFault start now
+  -- what all keys pass, those of the blocks and of the records not yet written and not yet given pass
+  pub passing : (p : Key → Bool) → AllByRecursion (KeyPasses p) all → AllByRecursion (EndsPass p) (fences_of w) × AllByRecursion (KeyPasses p) w.records × AllByRecursion (KeyPasses p) rest

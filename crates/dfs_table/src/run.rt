@@ -38,6 +38,22 @@ impl Tables {
         }
     }
 
+    /// These tables, without taking memory.
+    pub fn from_vec(tables: Vec<Table>) -> Tables
+        requires { AreTables tables.items }
+        ensures { result ≡ tables.items }
+    {
+        Tables { tables }
+    }
+
+    /// The tables as a `Vec`, without taking memory.
+    pub fn into_vec(self) -> Vec<Table>
+        ensures items { result.items ≡ self }
+        ensures tables { AreTables self }
+    {
+        self.tables
+    }
+
     /// How many tables there are.
     pub fn len(&self) -> usize
         ensures len { result ≡ length self.now }

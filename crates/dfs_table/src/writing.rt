@@ -1,14 +1,16 @@
 //! Runs that are written from a source of records.
 
-ghost use Rattle.std.specs.Prelude.{◌≡◌, ◌≤◌, ◌<◌, ◌+◌, ◌*◌, ◌↔◌, ℕ, length, take, IsFalse, IsErrOf, IfOk, OnOk};
+ghost use Rattle.std.specs.Prelude.{◌≡◌, ◌≤◌, ◌<◌, ◌+◌, ◌*◌, ◌↔◌, ℕ, Bool, length, take, IsFalse, IsErrOf, IfOk, OnOk};
+ghost use Rattle.std.specs.List.{AllByRecursion};
 ghost use Rattle.dfs_host.specs.Fault.{HasFaultCause};
 ghost use Rattle.dfs_host.specs.Host.{Told, bytes_of, Only};
+ghost use Rattle.dfs_record.specs.declared.Key.{Key as OwnKey};
 ghost use Rattle.dfs_record.specs.Delta.{delta};
 ghost use Rattle.dfs_log.specs.Logs.{LogStands};
 ghost use Rattle.dfs_table.specs.Counts.{count_of};
 ghost use Rattle.dfs_table.specs.Stored.{IsStored, run_records};
 ghost use Rattle.dfs_table.specs.Tables.{all_fences};
-ghost use Rattle.dfs_table.specs.Writer.{AreIn};
+ghost use Rattle.dfs_table.specs.Writer.{AreIn, EndsPass, KeyPasses};
 
 use crate::{Run, TableWriter};
 use dfs_host::{Fault, Host};
@@ -37,6 +39,10 @@ pub fn write_run<H: Host, R: Records + Drop>(
     ensures count { IfOk result (λ run. count_of (all_fences run.tables) ≡ length (R.rest records)) }
     ensures file { IfOk result (λ run. AreIn log.old.file run.tables) }
     ensures few { IfOk result (λ run. length run.tables ≤ 131072) }
+    // Each table but the last has 4,096 blocks.
+    ensures enough { IfOk result (λ run. 4096 * length run.tables ≤ length (R.rest records) + 4095) }
+    // What the keys of all records pass, the first and the last key of each block pass.
+    ensures passing { (p : OwnKey → Bool) → AllByRecursion (KeyPasses p) (R.rest records) → IfOk result (λ run. AllByRecursion (EndsPass p) (all_fences run.tables)) }
     ensures log { Told (H.state host.old) (OnOk result (LogStands (H.state host.new) log.new)) }
     ensures live { OnOk result (IsFalse log.new.spent) }
 

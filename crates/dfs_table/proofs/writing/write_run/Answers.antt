@@ -1,5 +1,6 @@
-use Rattle.std.proofs.Common.{◌≡◌, ◌∙◌, ◌++◌, ◌∷◌, [], inl, inr, length, drop, sym, ap, subst, arith, append_assoc}
+use Rattle.std.proofs.Common.{◌≡◌, ◌≤◌, ◌+◌, ◌*◌, ◌∙◌, ◌++◌, ◌∷◌, [], inl, inr, length, drop, sym, ap, subst, arith, append_assoc}
 use Rattle.std.specs.Prelude.{IfOk}
+use Rattle.std.specs.List.{AllByRecursion}
 use Rattle.std.proofs.lemmas.Result.{err_from_is_err_and}
 use Rattle.dfs_host.specs.Host.{bytes_of}
 use Rattle.dfs_host.proofs.Causes.{none_by}
@@ -10,7 +11,8 @@ use Rattle.dfs_block.specs.Block.{IsAboveLast}
 use Rattle.dfs_table.specs.Counts.{count_of}
 use Rattle.dfs_table.specs.Stored.{IsStored, run_records}
 use Rattle.dfs_table.specs.Tables.{all_fences}
-use Rattle.dfs_table.specs.Writer.{AreIn, IsSound, WriterState, WriterStands, pushed}
+use Rattle.dfs_table.specs.Writer.{AreIn, IsSound, KeyPasses, WriterState, WriterStands, pushed}
+use Rattle.dfs_table.proofs.Passing.{end_enough, end_passes, push_passes}
 use Rattle.dfs_table.proofs.Writings.{all_written, appends_on, before_on, next_above, none_left, not_too_many, only_on}
 use Rattle.dfs_table.proofs.writing.write_run.Goals as goal
 
@@ -44,6 +46,11 @@ loop-rec-preserved g c =
       growth = omega (arith, h.growth, x.growth, x.count);
       left = appends_on new c.requires.stands h.log_stands h.left c.push.ensures.before c.push.ensures.only c.push.ensures.reads c.push.ensures.same.0 c.push.ensures.same.1 c.push.ensures.over;
       no_fault = none_by h.no_fault c.push.ensures.cause (λ is. cc (is, c.in_ok-push.was));
+      passing = λ p all.
+          let before = h.passing p all in
+          let left : AllByRecursion (KeyPasses p) (r ∷ rest) = subst (AllByRecursion (KeyPasses p)) is before.2 in
+          let after = push_passes p c.loop-rec.writer c.push.new.self r left.0 x.fits x.begins (before.0, before.1) in
+          (after.0, after.1, left.1);
     }
 
 pub returns-in_err-push-clause-full : goal.returns-in_err-push-clause-full
@@ -87,6 +94,17 @@ returns-clause-count g c =
     let h = c.loop-rec.invariant in
     let none = none_left _ _ c.head.result c.in_default-head.not-Item c.head.ensures in
     subst (λ n. IfOk c.finish.result (λ run. count_of (all_fences run.tables) ≡ n)) (omega (arith, h.count, ap length none)) c.finish.ensures.count
+
+pub returns-clause-enough : goal.returns-clause-enough
+returns-clause-enough g c =
+    let h = c.loop-rec.invariant in
+    let none = none_left _ _ c.head.result c.in_default-head.not-Item c.head.ensures in
+    subst (λ n. IfOk c.finish.result (λ run. 4096 * length run.tables ≤ n + 4095)) (omega (arith, h.count, ap length none)) (end_enough c.loop-rec.writer c.finish.result h.sound (λ e. (c.finish.ensures.none e).0) c.finish.ensures.last)
+
+pub returns-clause-passing : goal.returns-clause-passing
+returns-clause-passing g c = λ p all.
+    let h = c.loop-rec.invariant.passing p all in
+    end_passes p c.loop-rec.writer c.finish.result (λ e. (c.finish.ensures.none e).0) c.finish.ensures.last (h.0, h.1)
 
 pub returns-clause-before : goal.returns-clause-before
 returns-clause-before g c =

@@ -2,6 +2,7 @@ use Rattle.std.proofs.Common.{◌≤◌, ◌++◌, ◌∷◌, [], ◌∙◌, sym
 use Rattle.std.specs.List.{sum_by}
 use Rattle.dfs_host.specs.Host.{bytes_of}
 use Rattle.dfs_record.specs.Delta.{delta}
+use Rattle.dfs_block.specs.Block.{first_key, last_key}
 use Rattle.dfs_table.specs.Stored.{IsStored}
 use Rattle.dfs_table.specs.Writer.{AddsTable, WriterState, pushed, table_len, wrote}
 use Rattle.dfs_table.proofs.Rising.{is_stored}
@@ -36,5 +37,7 @@ returns-clause-last g c = λ some.
       tables = added.tables ∙ ap (λ (w : WriterState). w.closed ++ added.table ∷ []) c.writer.view_is;
       fences = added.fences ∙ ap (λ (w : WriterState). w.fences ++ added.fence ∷ []) c.writer.view_is;
       count = added.count ∙ ap (λ (w : WriterState). length w.records) c.writer.view_is;
+      first = ap (λ (w : WriterState). first_key w.records) (sym c.writer.view_is) ∙ added.first;
+      last = ap (λ (w : WriterState). last_key w.records) (sym c.writer.view_is) ∙ added.last;
     } in
     subst (λ (w : WriterState). AddsTable c.args.self w.closed) (sym c.writer-2.view_is) here

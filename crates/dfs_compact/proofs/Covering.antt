@@ -1,0 +1,191 @@
+-- The parts together are the whole.
+use Rattle.std.proofs.Common.{◌≡◌, ◌≤◌, ◌<◌, ◌+◌, ◌*◌, ◌/◌, ℕ, zero, suc, Bool, true, false, cond, ◌&&◌, nat_lt, List, [], ◌∷◌, ◌++◌, length, map, refl, sym, ap, subst, ◌∙◌, arith, append-nil, lt-ltb, le-ltb, length-append}
+use Rattle.std.specs.Prelude.{Option, Some, None, IsSome, IsTrue, flat_map, slice_get}
+use Rattle.std.specs.List.{AllByRecursion, sum_by}
+use Rattle.std.specs.List.Sorted.{IsPermutation}
+use Rattle.std.specs.Ordering.{is_le, is_lt}
+use Rattle.std.proofs.lemmas.Grind.{flat_map-append}
+use Rattle.std.proofs.lemmas.List.Sorted.{length_permutation}
+use Rattle.std.proofs.lemmas.List.Sums.{sum_by-append}
+use Rattle.std.proofs.lemmas.Nat.{div_below, le-div}
+use Rattle.std.proofs.Math.Nat.{div-mul-le_self, mul-le-mul_right}
+use Rattle.dfs_record.specs.declared.Key.{Key}
+use Rattle.dfs_record.specs.declared.Record.{Record}
+use Rattle.dfs_record.specs.Delta.{Delta, delta, merged, records_of}
+use Rattle.dfs_record.specs.Key.{key_cmp}
+use Rattle.dfs_record.specs.Records.{Files, KeysRise}
+use Rattle.dfs_record.proofs.Replays.{delta-records_of}
+use Rattle.dfs_cursor.specs.Ranges.{is_from, is_up_to, is_within, part}
+use Rattle.dfs_fence.specs.declared.fence.Fence.{Fence}
+use Rattle.dfs_fence.specs.Index.{AreApart, AreFences}
+use Rattle.dfs_plan.specs.Parts.{AreSorted, boundary}
+use Rattle.dfs_table.specs.declared.run.Run.{Run}
+use Rattle.dfs_table.specs.declared.table.Table.{Table}
+use Rattle.dfs_table.specs.Counts.{count_of}
+use Rattle.dfs_table.specs.Stored.{IsStored, IsTableOf, records_by, run_records, table_records}
+use Rattle.dfs_table.specs.Tables.{AreTables, all_fences}
+use Rattle.dfs_table.specs.Writer.{EndsPass}
+use Rattle.dfs_table.proofs.Rising.{all_records}
+use Rattle.dfs_table.proofs.Stays.{all_append}
+use Rattle.dfs_compact.specs.Compaction.{AreMerged, CompactionState, IsCompaction, IsPartOf, Stands}
+use Rattle.dfs_compact.specs.Parts.{AreSources, count_all, fences_in, first_keys, merged_part, tables_in, tables_of}
+use Rattle.dfs_compact.proofs.Cutting.{below_not_le, from_later, merged_part_is, merged_rises, two_parts}
+
+-- ---- boundaries
+
+-- From part to part the boundary rises, and the last part is open above.
+pub record AreCut (b : ℕ → Option Key) (n : ℕ) : Type 0 where
+  pub ends : b n ≡ None
+  pub rises : (j : ℕ) → suc j < n → (k : Key) × (b (suc j) ≡ Some k) × (is_from (b j) k ≡ true)
+
+cut_behind : (b : ℕ → Option Key) (n : ℕ) → AreCut b (suc n) → AreCut (λ j. b (suc j)) n
+cut_behind b n cut = record { ends = cut.ends; rises = λ j lt. cut.rises (suc j) (omega (arith, lt)) }
+
+module _ (keys : List Key) (parts : ℕ) (sorted : AreSorted keys) (some : 0 < length keys) where
+  place : ℕ → ℕ
+  place i = i * length keys / parts
+
+  inside : (i : ℕ) → 0 < i → i < parts → boundary keys parts i ≡ slice_get keys (i * length keys / parts)
+  inside i l m =
+      ap (λ c. cond (c && nat_lt i parts) (slice_get keys (i * length keys / parts)) None) (lt-ltb 0 i l)
+      ∙ ap (λ c. cond c (slice_get keys (i * length keys / parts)) None) (lt-ltb i parts m)
+
+  place_rises : (i j : ℕ) → 1 ≤ parts → i ≤ j → i * length keys / parts ≤ j * length keys / parts
+  place_rises i j some l = le-div (i * length keys / parts) (j * length keys) parts (omega (arith, some))
+      (omega (arith, div-mul-le_self (i * length keys) parts, mul-le-mul_right (length keys) l))
+
+  place_below : (i : ℕ) → i < parts → i * length keys / parts < length keys
+  place_below i l = div_below (i * length keys) parts (length keys) (omega (arith, l)) (grind (arith, mul-lt i l))
+    where
+      mul-lt : (i : ℕ) → i < parts → i * length keys < length keys * parts
+      mul-lt i l = grind (arith, some)
+
+  is_there : {A : Type 0} (xs : List A) (n : ℕ) → n < length xs → (x : A) × (slice_get xs n ≡ Some x)
+  is_there [] n lt = absurd (omega (arith, lt))
+  is_there (x ∷ xs) zero lt = (x, refl)
+  is_there (x ∷ xs) (suc n) lt = is_there xs n (omega (arith, lt))
+
+  ends : boundary keys parts parts ≡ None
+  ends = by (nat_lt 0 parts)
+    where
+      by : (c : Bool) → cond (c && nat_lt parts parts) (slice_get keys (parts * length keys / parts)) None ≡ None
+      by true = ap (λ d. cond d (slice_get keys (parts * length keys / parts)) None) (le-ltb parts parts (omega arith))
+      by false = refl
+
+  rises : (j : ℕ) → suc j < parts → (k : Key) × (boundary keys parts (suc j) ≡ Some k) × (is_from (boundary keys parts j) k ≡ true)
+  rises j lt =
+      let there = is_there keys (suc j * length keys / parts) (place_below (suc j) lt) in
+      (there.0, inside (suc j) (omega arith) lt ∙ there.1, from j lt there.0 there.1)
+    where
+      low : (j : ℕ) → 0 < j → suc j < parts → (k : Key) → slice_get keys (suc j * length keys / parts) ≡ Some k → (o : Option Key) → slice_get keys (j * length keys / parts) ≡ o → is_from o k ≡ true
+      low j l lt k at None e = refl
+      low j l lt k at (Some low) e = sorted (j * length keys / parts) (suc j * length keys / parts) low k (place_rises j (suc j) (omega (arith, lt)) (omega arith)) e at
+
+      from : (j : ℕ) → suc j < parts → (k : Key) → slice_get keys (suc j * length keys / parts) ≡ Some k → is_from (boundary keys parts j) k ≡ true
+      from zero lt k at = refl
+      from (suc j) lt k at = subst (λ (o : Option Key). is_from o k ≡ true) (sym (inside (suc j) (omega arith) (omega (arith, lt)))) (low (suc j) (omega arith) lt k at (slice_get keys (suc j * length keys / parts)) refl)
+
+  pub boundaries : AreCut (boundary keys parts) parts
+  boundaries = record { ends = ends; rises = rises }
+
+-- ---- the records of all parts
+
+module _ (file : List ℕ) where
+  run_append : (xs ys : List Table) → run_records file (xs ++ ys) ≡ run_records file xs ++ run_records file ys
+  run_append xs ys = flat_map-append (table_records file) xs ys
+
+  pub join_records : (whole : List Record) → KeysRise whole → (m : Option Run) (ms : List (Option Run)) (b : ℕ → Option Key) → AreCut b (suc (length ms)) → AllByRecursion IsSome (m ∷ ms)
+      → ((j : ℕ) (run : Run) → slice_get (m ∷ ms) j ≡ Some (Some run) → run_records file run.tables ≡ part (b j) (b (suc j)) whole) → run_records file (tables_of (m ∷ ms)) ≡ part (b 0) None whole
+  join_records whole rise None ms b cut all each = absurd all.0
+  join_records whole rise (Some run) [] b cut all each =
+      run_append run.tables [] ∙ append-nil (run_records file run.tables) ∙ each 0 run refl ∙ ap (λ o. part (b 0) o whole) cut.ends
+  join_records whole rise (Some run) (m ∷ ms) b cut all each =
+      let next = cut.rises 0 (omega arith) in
+      run_append run.tables (tables_of (m ∷ ms))
+      ∙ ap (λ l. l ++ run_records file (tables_of (m ∷ ms))) (each 0 run refl ∙ ap (λ o. part (b 0) o whole) next.1)
+      ∙ ap (λ l. part (b 0) (Some next.0) whole ++ l)
+      (join_records whole rise m ms (λ j. b (suc j)) (cut_behind b (suc (length ms)) cut) all.1 (λ j r at. each (suc j) r at) ∙ ap (λ o. part o None whole) next.1)
+      ∙ two_parts (b 0) next.0 whole next.2 rise
+
+  pub join_none : (ms : List (Option Run)) → ((j : ℕ) (run : Run) → slice_get ms j ≡ Some (Some run) → run_records file run.tables ≡ []) → run_records file (tables_of ms) ≡ []
+  join_none [] each = refl
+  join_none (None ∷ ms) each = join_none ms (λ j run at. each (suc j) run at)
+  join_none (Some run ∷ ms) each =
+      run_append run.tables (tables_of ms) ∙ ap (λ l. l ++ run_records file (tables_of ms)) (each 0 run refl) ∙ join_none ms (λ j r at. each (suc j) r at)
+
+  pub join_stored : (ms : List (Option Run)) → ((j : ℕ) (run : Run) → slice_get ms j ≡ Some (Some run) → AllByRecursion (IsTableOf file) run.tables) → AllByRecursion (IsTableOf file) (tables_of ms)
+  join_stored [] each = tt
+  join_stored (None ∷ ms) each = join_stored ms (λ j run at. each (suc j) run at)
+  join_stored (Some run ∷ ms) each = all_append (IsTableOf file) run.tables (tables_of ms) (each 0 run refl) (join_stored ms (λ j r at. each (suc j) r at))
+
+-- a fact of each merged part's tables, and so of all of them
+pub join_all : (P : Table → Type 0) (ms : List (Option Run)) → ((j : ℕ) (run : Run) → slice_get ms j ≡ Some (Some run) → AllByRecursion P run.tables) → AllByRecursion P (tables_of ms)
+join_all P [] each = tt
+join_all P (None ∷ ms) each = join_all P ms (λ j run at. each (suc j) run at)
+join_all P (Some run ∷ ms) each = all_append P run.tables (tables_of ms) (each 0 run refl) (join_all P ms (λ j r at. each (suc j) r at))
+
+-- ---- sources without blocks
+
+no_fences : (xs ys : List Fence) → xs ++ ys ≡ [] → (xs ≡ []) × (ys ≡ [])
+no_fences [] ys e = (refl, e)
+no_fences (x ∷ xs) ys e = absurd cc
+
+pub none_of_none : (files : Files) (runs : List Run) (ds : List Delta) → AreSources files runs ds → fences_in runs ≡ [] → flat_map (λ (rs : List Record). rs) (map records_of ds) ≡ []
+none_of_none files [] [] are none = refl
+none_of_none files [] (d ∷ ds) are none = absurd are
+none_of_none files (r ∷ rs) [] are none = absurd are
+none_of_none files (r ∷ rs) (d ∷ ds) are none =
+    let both = no_fences (all_fences r.tables) (fences_in rs) none in
+    let source = are.0 in
+    let empty : records_of d ≡ [] = sym source.stored.records ∙ all_records (files source.file) r.tables ∙ ap (records_by (files source.file)) both.0 in
+    ap (λ l. l ++ flat_map (λ (rs : List Record). rs) (map records_of ds)) empty ∙ none_of_none files rs ds are.1 both.1
+
+same_length : {A B : Type 0} (f : A → B) (xs : List A) → length (map f xs) ≡ length xs
+same_length f [] = refl
+same_length f (x ∷ xs) = ap suc (same_length f xs)
+
+nothing : {A : Type 0} (xs : List A) → length xs ≡ 0 → xs ≡ []
+nothing [] e = refl
+nothing (x ∷ xs) e = absurd (omega (arith, e))
+
+pub no_keys : (c : CompactionState) → IsCompaction c → length c.keys ≡ 0 → fences_in c.sources ≡ []
+no_keys c is none = nothing (fences_in c.sources) (omega (arith, none, length_permutation (first_keys c.sources) c.keys is.keys, same_length (λ (f : Fence). f.first) (fences_in c.sources)))
+
+own_merged : (lists : List (List Record)) → records_of (delta (merged lists)) ≡ merged lists
+own_merged lists = ap records_of (delta-records_of (delta (flat_map (λ (rs : List Record). rs) lists)))
+
+-- ---- the run of all parts
+
+module _ (files : Files) (file : ℕ) (c : CompactionState) (ds : List Delta) (is : IsCompaction c) (all : AreMerged c) (stands : Stands files file c ds) where
+  abbrev whole : List Record
+  whole = merged (map records_of ds)
+
+  of_part : (j : ℕ) (run : Run) → slice_get c.merged j ≡ Some (Some run) → run_records (files file) run.tables ≡ part (boundary c.keys c.parts j) (boundary c.keys c.parts (suc j)) whole
+  of_part j run at =
+      (stands.each j run at).records
+      ∙ own_merged (map (λ d. part (boundary c.keys c.parts j) (boundary c.keys c.parts (j + 1)) (records_of d)) ds)
+      ∙ merged_part_is (boundary c.keys c.parts j) (boundary c.keys c.parts (j + 1)) ds
+      ∙ (let next : j + 1 ≡ suc j = omega arith in ap (λ n. part (boundary c.keys c.parts j) (boundary c.keys c.parts n) whole) next)
+
+  all_of_them : (ms : List (Option Run)) → ms ≡ c.merged → (n : ℕ) → length c.keys ≡ n → run_records (files file) (tables_of c.merged) ≡ whole
+  all_of_them [] e n keys = absurd (omega (arith, ap length e, is.len, is.plan.some))
+  all_of_them (m ∷ ms) e zero keys =
+      let none : whole ≡ [] = ap (λ l. records_of (delta l)) (none_of_none files c.sources ds stands.sources (no_keys c is keys)) in
+      join_none (files file) c.merged (λ j run at. of_part j run at ∙ ap (part (boundary c.keys c.parts j) (boundary c.keys c.parts (suc j))) none) ∙ sym none
+  all_of_them (m ∷ ms) e (suc n) keys =
+      let cut = boundaries c.keys c.parts is.plan.sorted (omega (arith, keys)) in
+      let number : c.parts ≡ suc (length ms) = sym is.len ∙ ap length (sym e) in
+      ap (λ l. run_records (files file) (tables_of l)) (sym e)
+      ∙ join_records (files file) whole (merged_rises (map records_of ds)) m ms (boundary c.keys c.parts) (subst (AreCut (boundary c.keys c.parts)) number cut)
+      (subst (AllByRecursion IsSome) (sym e) all) (λ j run at. of_part j run (ap (λ l. slice_get l j) (sym e) ∙ at))
+      ∙ everything whole
+    where
+      everything : (rs : List Record) → part None None rs ≡ rs
+      everything [] = refl
+      everything (r ∷ rs) = ap (λ l. r ∷ l) (everything rs)
+
+  pub all_stored : (run : Run) → run.tables ≡ tables_of c.merged → IsStored (files file) run (delta whole)
+  all_stored run same = record {
+    each = subst (AllByRecursion (IsTableOf (files file))) (sym same) (join_stored (files file) c.merged (λ j r at. (stands.each j r at).each));
+    records = ap (run_records (files file)) same ∙ all_of_them c.merged refl (length c.keys) refl ∙ sym (own_merged (map records_of ds));
+  }

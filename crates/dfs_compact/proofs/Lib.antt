@@ -1,0 +1,4 @@
+pub mod Covering
+pub mod Cutting
+pub mod Ranges
+pub mod Staying

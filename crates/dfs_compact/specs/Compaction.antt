@@ -1,0 +1,85 @@
+-- What a compaction is seen as, and what it is to stand on files.
+use Rattle.std.specs.Prelude.{◌≡◌, ◌≤◌, ◌+◌, ◌*◌, ℕ, Bool, List, Option, Some, IsSome, IsSomeAnd, length, slice_get, slice_set}
+use Rattle.std.specs.List.{AllByRecursion}
+use Rattle.std.specs.List.Sorted.{IsPermutation}
+use Rattle.dfs_record.specs.declared.Key.{Key}
+use Rattle.dfs_record.specs.Delta.{Delta, delta}
+use Rattle.dfs_record.specs.Records.{Files}
+use Rattle.dfs_cursor.specs.Ranges.{is_within}
+use Rattle.dfs_plan.specs.Parts.{boundary}
+use Rattle.dfs_plan.specs.Plan.{IsPlan}
+use Rattle.dfs_table.specs.declared.run.Run.{Run}
+use Rattle.dfs_table.specs.Counts.{count_of}
+use Rattle.dfs_table.specs.Stored.{IsStored}
+use Rattle.dfs_table.specs.Tables.{AreTables, all_fences}
+use Rattle.dfs_table.specs.Writer.{AreIn, EndsPass}
+use Rattle.dfs_compact.specs.declared.compaction.Parted.{Parted}
+use Rattle.dfs_compact.specs.declared.compaction.Parted.TheVariants.{Merged, Last, Range, Done}
+use Rattle.dfs_compact.specs.Parts.{AreSources, count_all, first_keys, merged_part, tables_of}
+
+pub record CompactionState : Type 0 where
+  -- the runs that are merged, the oldest first
+  pub sources : List Run
+  -- the first keys of their blocks, sorted, and how many parts they cut the keys into
+  pub keys : List Key
+  pub parts : ℕ
+  -- of each part, in the order of their ranges, what it was merged to
+  pub merged : List (Option Run)
+  pub spent : Bool
+
+-- A compaction stands where its sources are stored in their files for these change sets, and the tables of each merged part lie in
+-- this file and are stored there for the merged list of the change sets, cut to the part's range.
+pub record Stands (files : Files) (file : ℕ) (c : CompactionState) (ds : List Delta) : Type 0 where
+  pub sources : AreSources files c.sources ds
+  pub inside : AreIn file (tables_of c.merged)
+  pub each : (i : ℕ) (run : Run) → slice_get c.merged i ≡ Some (Some run) → IsStored (files file) run (delta (merged_part (boundary c.keys c.parts i) (boundary c.keys c.parts (i + 1)) ds))
+
+-- the part with this number was merged
+abbrev pub IsMerged : CompactionState → ℕ → Type 0
+IsMerged c i = IsSomeAnd (slice_get c.merged i) IsSome
+
+-- all parts were merged
+abbrev pub AreMerged : CompactionState → Type 0
+AreMerged c = AllByRecursion IsSome c.merged
+
+-- there is no such part, or it was merged: the call is refused
+abbrev pub IsRefusal : Parted → Type 0
+IsRefusal Merged = ⊥
+IsRefusal Last = ⊥
+IsRefusal Range = Unit {0}
+IsRefusal Done = Unit {0}
+
+-- the part was merged
+abbrev pub IsWritten : Parted → Type 0
+IsWritten Merged = Unit {0}
+IsWritten Last = Unit {0}
+IsWritten Range = ⊥
+IsWritten Done = ⊥
+
+-- which of the two answers a part that was merged has
+abbrev pub HasOutcome : CompactionState → Parted → Type 0
+HasOutcome c Merged = ¬ (AreMerged c)
+HasOutcome c Last = AreMerged c
+HasOutcome c Range = ⊥
+HasOutcome c Done = ⊥
+
+-- The part became this run, and nothing else changed.
+pub record IsAdded (old new : CompactionState) (i : ℕ) : Type 0 where
+  pub run : Run
+  pub same : new ≡ record old { merged = slice_set old.merged i (Some run) }
+
+-- What a part was merged to, on every host: its blocks lie in the part's range, it has no more records than the sources together, and
+-- all its tables but the last are full.
+pub record IsPartOf (c : CompactionState) (i : ℕ) (run : Run) : Type 0 where
+  pub tables : AreTables run.tables
+  pub within : AllByRecursion (EndsPass (is_within (boundary c.keys c.parts i) (boundary c.keys c.parts (i + 1)))) (all_fences run.tables)
+  pub few : count_of (all_fences run.tables) ≤ count_all c.sources
+  pub enough : 4096 * length run.tables ≤ count_of (all_fences run.tables) + 4095
+
+-- what is so of each compaction
+pub record IsCompaction (c : CompactionState) : Type 0 where
+  pub len : length c.merged ≡ c.parts
+  pub plan : IsPlan c.keys c.parts
+  pub keys : IsPermutation (first_keys c.sources) c.keys
+  pub few : count_all c.sources ≤ 536870912
+  pub each : (i : ℕ) (run : Run) → slice_get c.merged i ≡ Some (Some run) → IsPartOf c i run

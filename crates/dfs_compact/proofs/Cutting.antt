@@ -22,7 +22,9 @@ use Rattle.dfs_cursor.specs.Ranges.{is_from, is_up_to, is_within, part, part_pas
 use Rattle.dfs_fence.proofs.Orders.{at_most_below, less}
 use Rattle.dfs_merge.specs.Laws.{get-kept}
 use Rattle.dfs_merge.specs.Sources.{kept}
+use Rattle.dfs_table.specs.Writer.{KeyPasses}
 use Rattle.dfs_compact.specs.Parts.{merged_part}
+use Rattle.dfs_compact.proofs.Ranges.{all_lengths, all_within}
 
 -- ---- a part of a change set
 
@@ -57,13 +59,13 @@ value_of_part p q (r ∷ rs) = by (p r.key) refl (eq_by_cmp key_cmp q r.key) ref
 kept_part : (p : Key → Bool) (rs : List Record) → kept p (delta rs) ≡ delta (filter (λ (r : Record). p r.key) rs)
 kept_part p rs = same_map _ _ (λ q. get-kept p (delta rs) q ∙ ap (λ o. cond (p q) o None) (get-delta rs q) ∙ sym (get-delta (filter (λ (r : Record). p r.key) rs) q ∙ value_of_part p q rs))
 
+abbrev as_record : Key × Value → Record
+as_record e = record { key = e.0; value = e.1 }
+
 entries_part : (p : Key → Bool) (es : List (Key × Value)) → map (λ (e : Key × Value). record { key = e.0; value = e.1 }) (where_key key_cmp p es) ≡ filter (λ (r : Record). p r.key) (map (λ (e : Key × Value). record { key = e.0; value = e.1 }) es)
 entries_part p [] = refl
 entries_part p (e ∷ es) = by (p e.0) (entries_part p es)
   where
-    abbrev as_record : Key × Value → Record
-    as_record e = record { key = e.0; value = e.1 }
-
     by : (b : Bool) → map as_record (where_key key_cmp p es) ≡ filter (λ (r : Record). p r.key) (map as_record es)
         → map as_record (cond b (e ∷ where_key key_cmp p es) (where_key key_cmp p es)) ≡ cond b (as_record e ∷ filter (λ (r : Record). p r.key) (map as_record es)) (filter (λ (r : Record). p r.key) (map as_record es))
     by true h = ap (λ l. as_record e ∷ l) h
@@ -88,6 +90,25 @@ merged_part_is low high ds = merged_cut low high records_of ds
 pub merged_rises : (lists : List (List Record)) → KeysRise (merged lists)
 merged_rises lists = rising_records (delta (flat_map (λ (rs : List Record). rs) lists))
 
+-- lists with keys of a range have a merged list with keys of that range
+kept_all : (low high : Option Key) (rs : List Record) → AllByRecursion (KeyPasses (is_within low high)) rs → part low high rs ≡ rs
+kept_all low high [] all = refl
+kept_all low high (r ∷ rs) all = by (is_within low high r.key) all.0 (kept_all low high rs all.1)
+  where
+    by : (b : Bool) → b ≡ true → part low high rs ≡ rs → (if b then r ∷ part low high rs else part low high rs) ≡ r ∷ rs
+    by true e h = ap (λ l. r ∷ l) h
+    by false e h = absurd cc
+
+lists_kept : {S : Type 0} (low high : Option Key) (rest : S → List Record) (ss : List S) → AllByRecursion (λ s. AllByRecursion (KeyPasses (is_within low high)) (rest s)) ss → map (λ s. part low high (rest s)) ss ≡ map rest ss
+lists_kept low high rest [] all = refl
+lists_kept low high rest (s ∷ ss) all = λ i. kept_all low high (rest s) all.0 i ∷ lists_kept low high rest ss all.1 i
+
+pub merged_within : {S : Type 0} (low high : Option Key) (rest : S → List Record) (ss : List S) → AllByRecursion (λ s. AllByRecursion (KeyPasses (is_within low high)) (rest s)) ss
+    → AllByRecursion (KeyPasses (is_within low high)) (merged (map rest ss))
+merged_within low high rest ss all =
+    let same : merged (map rest ss) ≡ part low high (merged (map rest ss)) = ap merged (sym (lists_kept low high rest ss all)) ∙ merged_cut low high rest ss in
+    subst (AllByRecursion (KeyPasses (is_within low high))) (sym same) (all_within low high (merged (map rest ss)))
+
 -- merging makes nothing more
 one_key_more : (d : Delta) (r : Record) → len (with_record d r) ≤ len d + 1
 one_key_more d r = by (is_some (get d r.key)) (length-put key_cmp keys_total r.key r.value d.entries d.sorted)
@@ -100,7 +121,7 @@ after_few : (d : Delta) (rs : List Record) → len (fold with_record d rs) ≤ l
 after_few d [] = omega arith
 after_few d (r ∷ rs) = omega (arith, after_few (with_record d r) rs, one_key_more d r)
 
-entries_same : (es : List (Key × Value)) → length (map (λ (e : Key × Value). record { key = e.0; value = e.1 }) es) ≡ length es
+entries_same : (es : List (Key × Value)) → length (map as_record es) ≡ length es
 entries_same [] = refl
 entries_same (e ∷ es) = ap suc (entries_same es)
 
@@ -108,6 +129,9 @@ pub merged_few : (lists : List (List Record)) → length (merged lists) ≤ leng
 merged_few lists =
     let all = flat_map (λ (rs : List Record). rs) lists in
     omega (arith, entries_same (delta all).entries, after_few empty all)
+
+pub few_of : {S : Type 0} (rest : S → List Record) (ss : List S) (n : ℕ) → sum_by (λ s. length (rest s)) ss ≤ n → length (merged (map rest ss)) ≤ n
+few_of rest ss n le = omega (arith, merged_few (map rest ss), all_lengths rest ss, le)
 
 -- ---- the order of keys
 

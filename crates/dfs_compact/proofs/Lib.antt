@@ -1,4 +1,5 @@
 pub mod Covering
 pub mod Cutting
 pub mod Ranges
+pub mod Rounds
 pub mod Staying

@@ -156,5 +156,9 @@ all_lengths rest (s ∷ ss) = omega (arith, length-append (rest s) (flat_map (λ
 
 -- ---- answers
 
+pub ok_by : {T E A : Type 0} (result : Result T E) (f : T → A) (P : A → Type 0) (a : A) → IfOk result (λ x. f x ≡ a) → P a → IfOk result (λ x. P (f x))
+ok_by (Ok x) f P a h p = subst P (sym h) p
+ok_by (Err e) f P a h p = tt
+
 pub ok_to : {T E A : Type 0} (result : Result T E) (f : T → A) {a b : A} → IfOk result (λ x. f x ≡ a) → a ≡ b → IfOk result (λ x. f x ≡ b)
 ok_to result f h e = subst (λ y. IfOk result (λ x. f x ≡ y)) e h

@@ -70,16 +70,16 @@ pub record IsAdded (old new : CompactionState) (i : ℕ) : Type 0 where
 
 -- What a part was merged to, on every host: its blocks lie in the part's range, it has no more records than the sources together, and
 -- all its tables but the last are full.
-pub record IsPartOf (c : CompactionState) (i : ℕ) (run : Run) : Type 0 where
+pub record IsPartOf (sources : List Run) (keys : List Key) (parts i : ℕ) (run : Run) : Type 0 where
   pub tables : AreTables run.tables
-  pub within : AllByRecursion (EndsPass (is_within (boundary c.keys c.parts i) (boundary c.keys c.parts (i + 1)))) (all_fences run.tables)
-  pub few : count_of (all_fences run.tables) ≤ count_all c.sources
+  pub within : AllByRecursion (EndsPass (is_within (boundary keys parts i) (boundary keys parts (i + 1)))) (all_fences run.tables)
+  pub few : count_of (all_fences run.tables) ≤ count_all sources
   pub enough : 4096 * length run.tables ≤ count_of (all_fences run.tables) + 4095
 
 -- what is so of each compaction
-pub record IsCompaction (c : CompactionState) : Type 0 where
-  pub len : length c.merged ≡ c.parts
-  pub plan : IsPlan c.keys c.parts
-  pub keys : IsPermutation (first_keys c.sources) c.keys
-  pub few : count_all c.sources ≤ 536870912
-  pub each : (i : ℕ) (run : Run) → slice_get c.merged i ≡ Some (Some run) → IsPartOf c i run
+pub record IsCompaction (sources : List Run) (keys : List Key) (parts : ℕ) (merged : List (Option Run)) : Type 0 where
+  pub len : length merged ≡ parts
+  pub plan : IsPlan keys parts
+  pub firsts : IsPermutation (first_keys sources) keys
+  pub few : count_all sources ≤ 536870912
+  pub each : (i : ℕ) (run : Run) → slice_get merged i ≡ Some (Some run) → IsPartOf sources keys parts i run

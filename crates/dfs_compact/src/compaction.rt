@@ -15,7 +15,7 @@ ghost use Rattle.dfs_table.specs.Counts.{count_of};
 ghost use Rattle.dfs_table.specs.Stored.{IsStored};
 ghost use Rattle.dfs_table.specs.Tables.{all_fences};
 ghost use Rattle.dfs_table.specs.Writer.{AreIn};
-ghost use Rattle.dfs_compact.specs.Parts.{AreSources, count_all, first_keys, tables_of};
+ghost use Rattle.dfs_compact.specs.Parts.{AreSources, count_all, first_keys, tables_in, tables_of};
 ghost use Rattle.dfs_compact.specs.Compaction.{AreMerged, HasOutcome, IsAdded, IsMerged, IsPartOf, IsRefusal, IsWritten, Stands};
 
 use crate::keys::keys_of;
@@ -63,16 +63,12 @@ impl Model for Compaction {
 
     ghost view = { λ c. record { sources = map (λ r. r.value) c.sources.items; keys = c.plan.keys; parts = c.plan.parts; merged = c.merged.items; spent = c.spent } };
 
-    ghost invariant = { λ c. IsCompaction (record { sources = map (λ r. r.value) c.sources.items; keys = c.plan.keys; parts = c.plan.parts; merged = c.merged.items; spent = c.spent }) × (length (tables_of c.merged.items) ≡ c.tables) × (c.room.items ≡ []) × (c.tables ≤ vec_capacity c.room) };
+    ghost invariant = { λ c. IsCompaction (map (λ r. r.value) c.sources.items) c.plan.keys c.plan.parts c.merged.items × (length (tables_of c.merged.items) ≡ c.tables) × (c.room.items ≡ []) × (c.tables ≤ vec_capacity c.room) };
 }
 
 impl Compaction {
     /// The compaction of these runs, oldest first, in so many parts. The first keys of all their blocks cut the keys into parts.
-    pub fn begin(
-        alloc: Global,
-        sources: Vec<Rc<Run>>,
-        parts: u16,
-    ) -> Result<Compaction, NoMemory>
+    pub fn begin(alloc: Global, sources: Vec<Rc<Run>>, parts: u16) -> Result<Compaction, NoMemory>
         requires some { 1 ≤ parts }
         requires most { parts ≤ 256 }
         // So many records fit into the tables of one run, each alone in its block.
@@ -189,7 +185,7 @@ impl Compaction {
     // Keeps what the part was merged to, and takes room for its tables.
     fn keep(&mut self, index: usize, run: Run) -> Result<(), NoMemory>
         requires within { slice_get self.old.merged index ≡ Some None }
-        requires part { IsPartOf self.old index run }
+        requires part { IsPartOf self.old.sources self.old.keys self.old.parts index run }
         ensures kept { OnOk result (self.new ≡ record self.old { merged = slice_set self.old.merged index (Some run) }) }
         ensures unchanged { OnErr result (self.new ≡ self.old) }
     {
@@ -235,12 +231,22 @@ fn join(room: Vec<Table>, merged: Vec<Option<Run>>) -> Vec<Table>
 {
     let mut joined = room;
     for run in merged {
-        if let Some(run) = run {
-            let mut tables = run.tables.into_vec();
-            let Ok(()) = joined.append(&mut tables) else {
-                unreachable!();
-            };
-        }
+        add(&mut joined, run);
     }
     joined
+}
+
+// Adds the tables of a part, for which there is room.
+fn add(joined: &mut Vec<Table>, run: Option<Run>)
+    requires { length joined.old.items + length (tables_in run) ≤ vec_capacity joined.old }
+    ensures items { joined.new.items ≡ joined.old.items ++ tables_in run }
+    ensures capacity { vec_capacity joined.old ≤ vec_capacity joined.new }
+{
+    let Some(run) = run else {
+        return;
+    };
+    let mut tables = run.tables.into_vec();
+    let Ok(()) = joined.append(&mut tables) else {
+        unreachable!();
+    };
 }

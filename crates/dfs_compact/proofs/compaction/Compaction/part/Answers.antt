@@ -1,0 +1,56 @@
+use Rattle.std.proofs.Common.{◌≡◌, ◌≤◌, ◌+◌, ◌*◌, ◌∙◌, sym, ap, subst, arith, length, map, List, true, false, Global}
+use Rattle.std.specs.declared.rc.Rc.{Rc}
+use Rattle.dfs_host.specs.Host.{bytes_of}
+use Rattle.std.specs.Prelude.{Some, None, Option, slice_get, slice_set}
+use Rattle.std.proofs.lemmas.Option.{same_Some}
+use Rattle.dfs_table.specs.declared.run.Run.{Run}
+use Rattle.dfs_table.specs.declared.table.Table.{Table}
+use Rattle.dfs_table.specs.Counts.{count_of}
+use Rattle.dfs_table.specs.Tables.{all_fences}
+use Rattle.dfs_table.specs.Writer.{AreIn}
+use Rattle.dfs_compact.specs.Compaction.{CompactionState, IsMerged, Stands}
+use Rattle.dfs_compact.specs.Parts.{AreSources, tables_of}
+use Rattle.dfs_compact.proofs.Staying.{never_done, none_there, not_merged, set_all, set_here, stands_on, stands_still}
+use Rattle.dfs_compact.proofs.compaction.Compaction.part.Goals as goal
+
+pub keep-requires-clause-within : goal.keep-requires-clause-within
+keep-requires-clause-within g c = none_there c.self.inside.merged.items c.args.part c.index.result.now (omega (arith, c.if-part-len.false, c.len-2.ensures)) c.index.ensures (sym c.is_some.ensures ∙ c.if-is_some.false)
+
+pub returns-in_default-clause-done : goal.returns-in_default-clause-done
+returns-in_default-clause-done g c =
+    let there = none_there c.self.inside.merged.items c.args.part c.index.result.now (omega (arith, c.if-part-len.false, c.len-2.ensures)) c.index.ensures (sym c.is_some.ensures ∙ c.if-is_some.false) in (
+      λ e. absurd (cc e),
+      λ merged. absurd (not_merged c.self.inside.merged.items c.args.part there (subst (λ (s : CompactionState). IsMerged s c.args.part) (sym c.self.view_is) merged)),
+    )
+
+pub returns-clause-done : goal.returns-clause-done
+returns-clause-done g c =
+    let self = c.self-2.inside in
+    let state : CompactionState = record { sources = map (λ r. r.value) self.sources.items; keys = self.plan.keys; parts = self.plan.parts; merged = self.merged.items; spent = false } in
+    let there = none_there c.self.inside.merged.items c.args.part c.index.result.now (omega (arith, c.if-part-len.false, c.len-2.ensures)) c.index.ensures (sym c.is_some.ensures ∙ c.if-is_some.false) in (
+      λ e. absurd (never_done state c.outcome.result c.outcome.ensures e),
+      λ merged. absurd (not_merged c.self.inside.merged.items c.args.part there (subst (λ (s : CompactionState). IsMerged s c.args.part) (sym c.self.view_is) merged)),
+    )
+
+pub returns-clause-stands : goal.returns-clause-stands
+returns-clause-stands g c = λ ds tells stands.
+    let old = g.H.Host.state c.args.host.now in
+    let new = g.H.Host.state c.write_part.new.host in
+    let file = c.args.log.now.file in
+    let start = stands_still {b = true} (subst (λ (s : CompactionState). Stands (bytes_of old) file s ds) (sym c.self.view_is) stands) in
+    let after = stands_on old new file c.args.log.now.len tells c.in_ok-run.ensures.only c.in_ok-run.ensures.before _ ds c.args.part c.in_ok-run.run' c.in_ok-run.ensures.file start (λ are. c.in_ok-run.ensures.stored ds tells (subst (λ (rs : List (Rc Run Global)). AreSources (bytes_of old) (map (λ r. r.value) rs) ds) (sym c.deref.ensures.value) are)) in
+    let same = c.self-2.view_is ∙ c.in-Ok.ensures.kept in
+    subst (λ (s : CompactionState). Stands (bytes_of new) file s ds) (sym (ap (λ (s : CompactionState). record s { spent = false }) same)) (stands_still after)
+
+pub returns-clause-file : goal.returns-clause-file
+returns-clause-file g c =
+    let file = c.args.log.now.file in
+    let same = ap (λ (s : CompactionState). s.merged) (c.self-2.view_is ∙ c.in-Ok.ensures.kept) in
+    let before = subst (λ (s : CompactionState). AreIn file (tables_of s.merged)) (sym c.self.view_is) c.requires.file in
+    subst (λ (ms : List (Option Run)). AreIn file (tables_of ms)) (sym same) (set_all (λ (t : Table). t.file ≡ file) c.self.inside.merged.items c.args.part c.in_ok-run.run' c.in_ok-run.ensures.file before)
+
+pub returns-clause-growth : goal.returns-clause-growth
+returns-clause-growth g c = λ written run at.
+    let same = ap (λ (s : CompactionState). s.merged) (c.self-2.view_is ∙ c.in-Ok.ensures.kept) in
+    let here = set_here c.self.inside.merged.items c.args.part (Some c.in_ok-run.run') (Some run) (subst (λ (ms : List (Option Run)). slice_get ms c.args.part ≡ Some (Some run)) same at) in
+    omega (arith, c.in_ok-run.ensures.growth, ap (λ (r : Run). count_of (all_fences r.tables)) (same_Some c.in_ok-run.run' run here))

@@ -40,7 +40,7 @@ pub record AreCut (b : ℕ → Option Key) (n : ℕ) : Type 0 where
   pub ends : b n ≡ None
   pub rises : (j : ℕ) → suc j < n → (k : Key) × (b (suc j) ≡ Some k) × (is_from (b j) k ≡ true)
 
-cut_behind : (b : ℕ → Option Key) (n : ℕ) → AreCut b (suc n) → AreCut (λ j. b (suc j)) n
+pub cut_behind : (b : ℕ → Option Key) (n : ℕ) → AreCut b (suc n) → AreCut (λ j. b (suc j)) n
 cut_behind b n cut = record { ends = cut.ends; rises = λ j lt. cut.rises (suc j) (omega (arith, lt)) }
 
 module _ (keys : List Key) (parts : ℕ) (sorted : AreSorted keys) (some : 0 < length keys) where
@@ -158,35 +158,39 @@ own_merged lists = ap records_of (delta-records_of (delta (flat_map (λ (rs : Li
 
 -- ---- the run of all parts
 
-module _ (files : Files) (file : ℕ) (c : CompactionState) (ds : List Delta) (is : IsCompaction c.sources c.keys c.parts c.merged) (all : AreMerged c) (stands : Stands files file c ds) where
+all_within_none : (rs : List Record) → part None None rs ≡ rs
+all_within_none [] = refl
+all_within_none (r ∷ rs) = ap (λ l. r ∷ l) (all_within_none rs)
+
+module _ (files : Files) (file : ℕ) (c : CompactionState) (ds : List Delta) (stands : Stands files file c ds) where
   abbrev whole : List Record
   whole = merged (map records_of ds)
 
-  of_part : (j : ℕ) (run : Run) → slice_get c.merged j ≡ Some (Some run) → run_records (files file) run.tables ≡ part (boundary c.keys c.parts j) (boundary c.keys c.parts (suc j)) whole
+  pub of_part : (j : ℕ) (run : Run) → slice_get c.merged j ≡ Some (Some run) → run_records (files file) run.tables ≡ part (boundary c.keys c.parts j) (boundary c.keys c.parts (suc j)) (merged (map records_of ds))
   of_part j run at =
       (stands.each j run at).records
       ∙ own_merged (map (λ d. part (boundary c.keys c.parts j) (boundary c.keys c.parts (j + 1)) (records_of d)) ds)
       ∙ merged_part_is (boundary c.keys c.parts j) (boundary c.keys c.parts (j + 1)) ds
       ∙ (let next : j + 1 ≡ suc j = omega arith in ap (λ n. part (boundary c.keys c.parts j) (boundary c.keys c.parts n) whole) next)
 
-  all_of_them : (ms : List (Option Run)) → ms ≡ c.merged → (n : ℕ) → length c.keys ≡ n → run_records (files file) (tables_of c.merged) ≡ whole
+module _ (files : Files) (file : ℕ) (c : CompactionState) (ds : List Delta) (is : IsCompaction c.sources c.keys c.parts c.merged) (all : AreMerged c) (stands : Stands files file c ds) where
+  abbrev everything : List Record
+  everything = merged (map records_of ds)
+
+  all_of_them : (ms : List (Option Run)) → ms ≡ c.merged → (n : ℕ) → length c.keys ≡ n → run_records (files file) (tables_of c.merged) ≡ everything
   all_of_them [] e n keys = absurd (omega (arith, ap length e, is.len, is.plan.some))
   all_of_them (m ∷ ms) e zero keys =
-      let none : whole ≡ [] = ap (λ l. records_of (delta l)) (none_of_none files c.sources ds stands.sources (no_keys c is keys)) in
-      join_none (files file) c.merged (λ j run at. of_part j run at ∙ ap (part (boundary c.keys c.parts j) (boundary c.keys c.parts (suc j))) none) ∙ sym none
+      let none : everything ≡ [] = ap (λ l. records_of (delta l)) (none_of_none files c.sources ds stands.sources (no_keys c is keys)) in
+      join_none (files file) c.merged (λ j run at. of_part files file c ds stands j run at ∙ ap (part (boundary c.keys c.parts j) (boundary c.keys c.parts (suc j))) none) ∙ sym none
   all_of_them (m ∷ ms) e (suc n) keys =
       let cut = boundaries c.keys c.parts is.plan.sorted (omega (arith, keys)) in
       let number : c.parts ≡ suc (length ms) = sym is.len ∙ ap length (sym e) in
       ap (λ l. run_records (files file) (tables_of l)) (sym e)
-      ∙ join_records (files file) whole (merged_rises (map records_of ds)) m ms (boundary c.keys c.parts) (subst (AreCut (boundary c.keys c.parts)) number cut)
-      (subst (AllByRecursion IsSome) (sym e) all) (λ j run at. of_part j run (ap (λ l. slice_get l j) (sym e) ∙ at))
-      ∙ everything whole
-    where
-      everything : (rs : List Record) → part None None rs ≡ rs
-      everything [] = refl
-      everything (r ∷ rs) = ap (λ l. r ∷ l) (everything rs)
+      ∙ join_records (files file) everything (merged_rises (map records_of ds)) m ms (boundary c.keys c.parts) (subst (AreCut (boundary c.keys c.parts)) number cut)
+      (subst (AllByRecursion IsSome) (sym e) all) (λ j run at. of_part files file c ds stands j run (ap (λ l. slice_get l j) (sym e) ∙ at))
+      ∙ all_within_none everything
 
-  pub all_stored : (run : Run) → run.tables ≡ tables_of c.merged → IsStored (files file) run (delta whole)
+  pub all_stored : (run : Run) → run.tables ≡ tables_of c.merged → IsStored (files file) run (delta everything)
   all_stored run same = record {
     each = subst (AllByRecursion (IsTableOf (files file))) (sym same) (join_stored (files file) c.merged (λ j r at. (stands.each j r at).each));
     records = ap (run_records (files file)) same ∙ all_of_them c.merged refl (length c.keys) refl ∙ sym (own_merged (map records_of ds));
@@ -214,7 +218,7 @@ apart_two k (x ∷ []) [] a b low high = tt
 apart_two k (x ∷ []) (y ∷ ys) a b low high = (below_at_most x.last k y.first (less (key_cmp x.last k) low.0) high.0, b)
 apart_two k (x ∷ z ∷ xs) ys a b low high = (a.0, apart_two k (z ∷ xs) ys a.1 b low.1 high)
 
-fences_two : (xs ys : List Table) → all_fences (xs ++ ys) ≡ all_fences xs ++ all_fences ys
+pub fences_two : (xs ys : List Table) → all_fences (xs ++ ys) ≡ all_fences xs ++ all_fences ys
 fences_two xs ys = flat_map-append (λ (t : Table). t.fences) xs ys
 
 firsts_of : (low high : Option Key) (fs : List Fence) → AllByRecursion (EndsPass (is_within low high)) fs → AllByRecursion (λ (f : Fence). is_from low f.first ≡ true) fs
@@ -252,15 +256,15 @@ no_tables [] each = refl
 no_tables (None ∷ l) each = no_tables l (λ j run at. each (suc j) run at)
 no_tables (Some run ∷ l) each = omega (arith, length-append run.tables (tables_of l), each 0 run refl, no_tables l (λ j r at. each (suc j) r at))
 
-module _ (sources : List Run) (keys : List Key) (parts : ℕ) (ms : List (Option Run)) (is : IsCompaction sources keys parts ms) (all : AllByRecursion IsSome ms) where
-  no_records : length keys ≡ 0 → count_all sources ≡ 0
-  no_records none =
-      ap count_of (nothing (fences_in sources) (omega (arith, none, length_permutation (first_keys sources) keys is.firsts, same_length (λ (f : Fence). f.first) (fences_in sources))))
+pub no_records : (sources : List Run) (keys : List Key) (parts : ℕ) (ms : List (Option Run)) → IsCompaction sources keys parts ms → length keys ≡ 0 → count_all sources ≡ 0
+no_records sources keys parts ms is none =
+    ap count_of (nothing (fences_in sources) (omega (arith, none, length_permutation (first_keys sources) keys is.firsts, same_length (λ (f : Fence). f.first) (fences_in sources))))
 
+module _ (sources : List Run) (keys : List Key) (parts : ℕ) (ms : List (Option Run)) (is : IsCompaction sources keys parts ms) (all : AllByRecursion IsSome ms) where
   rises_all : (l : List (Option Run)) → l ≡ ms → (n : ℕ) → length keys ≡ n → AreApart (all_fences (tables_of ms))
   rises_all [] e n k = absurd (omega (arith, ap length e, is.len, is.plan.some))
   rises_all (m ∷ l) e zero k =
-      let none : tables_of ms ≡ [] = nothing (tables_of ms) (no_tables ms (λ j run at. omega (arith, (is.each j run at).few, (is.each j run at).enough, no_records k))) in
+      let none : tables_of ms ≡ [] = nothing (tables_of ms) (no_tables ms (λ j run at. omega (arith, (is.each j run at).few, (is.each j run at).enough, no_records sources keys parts ms is k))) in
       subst (λ (ts : List Table). AreApart (all_fences ts)) (sym none) tt
   rises_all (m ∷ l) e (suc n) k =
       let cut = boundaries keys parts is.plan.sorted (omega (arith, k)) in

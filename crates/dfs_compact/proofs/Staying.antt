@@ -37,6 +37,9 @@ pub none_there : (ms : List (Option Run)) (i : ℕ) (m : Option Run) → i < len
 none_there ms i None lt is not = slice_get-get_or ms i None lt ∙ ap (λ (o : Option Run). Some o) (sym is)
 none_there ms i (Some run) lt is not = absurd (cc not)
 
+pub merged_there : (ms : List (Option Run)) (i : ℕ) (m : Option Run) → i < length ms → m ≡ get_or ms i m → is_some m ≡ true → IsSomeAnd (slice_get ms i) IsSome
+merged_there ms i m lt is some = subst (λ (o : Option (Option Run)). IsSomeAnd o IsSome) (sym (slice_get-get_or ms i m lt ∙ ap (λ (o : Option Run). Some o) (sym is))) some
+
 pub not_merged : (ms : List (Option Run)) (i : ℕ) → slice_get ms i ≡ Some None → IsSomeAnd (slice_get ms i) IsSome → ⊥
 not_merged ms i at merged = let no : IsSome {T = Run} None = subst (λ (o : Option (Option Run)). IsSomeAnd o IsSome) at merged in absurd (cc no)
 

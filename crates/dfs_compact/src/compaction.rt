@@ -79,6 +79,7 @@ impl Compaction {
         ensures keys { IfOk result (λ c. IsPermutation (first_keys (map (λ r. r.value) sources.items)) c.keys) }
         ensures sorted { IfOk result (λ c. AreSorted c.keys) }
         ensures none { IfOk result (λ c. c.merged ≡ replicate parts None) }
+        ensures inside { (file : ℕ) → IfOk result (λ c. AreIn file (tables_of c.merged)) }
         ensures live { IfOk result (λ c. IsFalse c.spent) }
         ensures stands { (files : Files) (file : ℕ) (ds : List Delta) → AreSources files (map (λ r. r.value) sources.items) ds → IfOk result (λ c. Stands files file c ds) }
     {
@@ -137,6 +138,9 @@ impl Compaction {
 
         // A record of the part costs the log at most 1,100 bytes, and a part has at most as many as the sources.
         ensures growth { IfOk result (λ done. IsWritten done → (run : AnyRun) → slice_get self.new.merged part ≡ Some (Some run) → log.new.len ≤ log.old.len + 1100 * count_of (all_fences run.tables)) }
+        ensures most { IfOk result (λ done. IsWritten done → (run : AnyRun) → slice_get self.new.merged part ≡ Some (Some run) → count_of (all_fences run.tables) ≤ count_all self.old.sources) }
+        // All parts together have at most as many as well, wherever the compaction stands.
+        ensures most_of_all { IfOk result (λ done. IsWritten done → (files : Files) (file : ℕ) (ds : List Delta) → Stands files file self.new ds → count_of (all_fences (tables_of self.new.merged)) ≤ count_all self.new.sources) }
         ensures growth_at_most { log.new.len + log.new.refused ≤ log.old.len + 1100 * count_all self.old.sources }
 
         ensures never_changed { (file at : ℕ) → IsErrOf result (Fault.Changed file at) → ⊥ }
@@ -174,6 +178,7 @@ impl Compaction {
         ensures stored { (files : Files) (file : ℕ) (ds : List Delta) → Stands files file self ds → IsStored (files file) result (delta (merged_list (map records_of ds))) }
         ensures replays { (files : Files) (file : ℕ) (ds : List Delta) (d : Delta) → Stands files file self ds → IsStored (files file) result d → (below above : List Delta) (rs : List OwnRecord) → replay (below ++ ds ++ above) rs ≡ replay (below ++ d ∷ [] ++ above) rs }
 
+        ensures most { (files : Files) (file : ℕ) (ds : List Delta) → Stands files file self ds → count_of (all_fences result.tables) ≤ count_all self.sources }
         // Each part has one table at most that is not full.
         ensures few { 4096 * length result.tables ≤ count_of (all_fences result.tables) + 4095 * self.parts }
     {

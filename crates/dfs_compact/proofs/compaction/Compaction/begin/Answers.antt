@@ -29,6 +29,9 @@ invariant_of-result c =
       omega arith,
     )
 
+pub returns-clause-inside : goal.returns-clause-inside
+returns-clause-inside c = λ file. subst (AreIn file) (sym (ap tables_of c.in_ok-merged.ensures ∙ none_have c.args.parts)) tt
+
 pub returns-clause-stands : goal.returns-clause-stands
 returns-clause-stands c = λ files file ds are.
     let none = c.in_ok-merged.ensures in

@@ -1,16 +1,18 @@
-use Rattle.std.proofs.Common.{◌≡◌, ◌≤◌, ◌+◌, ◌*◌, ◌∙◌, sym, ap, subst, arith, length, map, List, true, false, Global}
+use Rattle.std.proofs.Common.{◌≡◌, ◌≤◌, ◌+◌, ◌*◌, ◌∙◌, refl, sym, ap, subst, arith, length, map, List, true, false, Global}
 use Rattle.std.specs.declared.rc.Rc.{Rc}
 use Rattle.dfs_host.specs.Host.{bytes_of}
 use Rattle.std.specs.Prelude.{Some, None, Option, slice_get, slice_set}
 use Rattle.std.proofs.lemmas.Option.{same_Some}
+use Rattle.std.proofs.lemmas.Result.{err_from_is_err_and}
 use Rattle.dfs_table.specs.declared.run.Run.{Run}
 use Rattle.dfs_table.specs.declared.table.Table.{Table}
 use Rattle.dfs_table.specs.Counts.{count_of}
 use Rattle.dfs_table.specs.Tables.{all_fences}
 use Rattle.dfs_table.specs.Writer.{AreIn}
 use Rattle.dfs_compact.specs.Compaction.{CompactionState, IsMerged, Stands}
-use Rattle.dfs_compact.specs.Parts.{AreSources, tables_of}
-use Rattle.dfs_compact.proofs.Staying.{never_done, none_there, not_merged, set_all, set_here, stands_on, stands_still}
+use Rattle.dfs_compact.specs.Parts.{AreSources, count_all, tables_of}
+use Rattle.dfs_compact.proofs.Counting.{few_in_all}
+use Rattle.dfs_compact.proofs.Staying.{merged_there, never_done, none_there, not_merged, set_all, set_here, stands_on, stands_still}
 use Rattle.dfs_compact.proofs.compaction.Compaction.part.Goals as goal
 
 pub keep-requires-clause-within : goal.keep-requires-clause-within
@@ -54,3 +56,33 @@ returns-clause-growth g c = λ written run at.
     let same = ap (λ (s : CompactionState). s.merged) (c.self-2.view_is ∙ c.in-Ok.ensures.kept) in
     let here = set_here c.self.inside.merged.items c.args.part (Some c.in_ok-run.run') (Some run) (subst (λ (ms : List (Option Run)). slice_get ms c.args.part ≡ Some (Some run)) same at) in
     omega (arith, c.in_ok-run.ensures.growth, ap (λ (r : Run). count_of (all_fences r.tables)) (same_Some c.in_ok-run.run' run here))
+
+pub returns-clause-most : goal.returns-clause-most
+returns-clause-most g c = λ written run at.
+    let same = ap (λ (s : CompactionState). s.merged) (c.self-2.view_is ∙ c.in-Ok.ensures.kept) in
+    let here = set_here c.self.inside.merged.items c.args.part (Some c.in_ok-run.run') (Some run) (subst (λ (ms : List (Option Run)). slice_get ms c.args.part ≡ Some (Some run)) same at) in
+    omega (
+      arith,
+      c.in_ok-run.ensures.most,
+      ap (λ (r : Run). count_of (all_fences r.tables)) (same_Some c.in_ok-run.run' run here),
+      ap (λ (rs : List (Rc Run Global)). count_all (map (λ r. r.value) rs)) c.deref.ensures.value,
+      ap (λ (s : CompactionState). count_all s.sources) c.self.view_is,
+    )
+
+pub returns-clause-most_of_all : goal.returns-clause-most_of_all
+returns-clause-most_of_all g c = λ written files file ds stands.
+    let self = c.self-2.inside in
+    few_in_all files file (record { sources = map (λ r. r.value) self.sources.items; keys = self.plan.keys; parts = self.plan.parts; merged = self.merged.items; spent = false }) ds c.self-2.invariant.0 stands
+
+pub returns-then-is_some-clause-done : goal.returns-then-is_some-clause-done
+returns-then-is_some-clause-done g c =
+    let there = merged_there c.self.inside.merged.items c.args.part c.index.result.now (omega (arith, c.if-part-len.false, c.len-2.ensures)) c.index.ensures (sym c.is_some.ensures ∙ c.if-is_some.true) in
+    (λ e. subst (λ (s : CompactionState). IsMerged s c.args.part) c.self.view_is there, λ merged. refl)
+
+pub returns-in_err-run-clause-done : goal.returns-in_err-run-clause-done
+returns-in_err-run-clause-done g c =
+    let there = none_there c.self.inside.merged.items c.args.part c.index.result.now (omega (arith, c.if-part-len.false, c.len-2.ensures)) c.index.ensures (sym c.is_some.ensures ∙ c.if-is_some.false) in
+    let p = err_from_is_err_and c.from_residual.result c.from_residual.ensures.1 in (
+      λ e. absurd (cc (e, p.1)),
+      λ merged. absurd (not_merged c.self.inside.merged.items c.args.part there (subst (λ (s : CompactionState). IsMerged s c.args.part) (sym c.self.view_is) merged)),
+    )

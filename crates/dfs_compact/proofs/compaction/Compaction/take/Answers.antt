@@ -9,7 +9,8 @@ use Rattle.dfs_table.specs.declared.table.Table.{Table}
 use Rattle.dfs_table.specs.Counts.{count_of}
 use Rattle.dfs_table.specs.Tables.{AreTables, all_fences}
 use Rattle.dfs_compact.specs.Compaction.{CompactionState, Stands}
-use Rattle.dfs_compact.specs.Parts.{tables_of}
+use Rattle.dfs_compact.specs.Parts.{count_all, tables_of}
+use Rattle.dfs_compact.proofs.Counting.{few_in_all}
 use Rattle.dfs_compact.proofs.Covering.{all_stored, all_tables, join_few, only_merged}
 use Rattle.dfs_compact.proofs.compaction.Compaction.take.Goals as goal
 
@@ -31,6 +32,13 @@ pub returns-clause-replays : goal.returns-clause-replays
 returns-clause-replays c = λ files file ds d stands is below above rs.
     let run : Run = record { tables = c.from_vec.result } in
     subst (λ (x : Delta). replay (below ++ ds ++ above) rs ≡ replay (below ++ x ∷ [] ++ above) rs) (sym (only_merged files file run ds d (returns-clause-stored c files file ds stands) is)) (merged_replays below ds above rs)
+
+pub returns-clause-most : goal.returns-clause-most
+returns-clause-most c = λ files file ds stands.
+    let self = c.self.inside in
+    let state : CompactionState = record { sources = map (λ r. r.value) self.sources.items; keys = self.plan.keys; parts = self.plan.parts; merged = self.merged.items; spent = self.spent } in
+    let few = few_in_all files file state ds c.self.invariant.0 (subst (λ (s : CompactionState). Stands files file s ds) (sym c.self.view_is) stands) in
+    omega (arith, few, ap (λ (ts : List Table). count_of (all_fences ts)) (c.from_vec.ensures ∙ c.join.ensures), ap (λ (s : CompactionState). count_all s.sources) c.self.view_is)
 
 pub returns-clause-few : goal.returns-clause-few
 returns-clause-few c =

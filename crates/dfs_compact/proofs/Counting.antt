@@ -1,11 +1,11 @@
 -- All parts together have at most as many records as the sources.
-use Rattle.std.proofs.Common.{◌≡◌, ◌≤◌, ◌<◌, ◌+◌, ℕ, zero, suc, List, [], ◌∷◌, ◌++◌, length, map, refl, sym, ap, subst, ◌∙◌, arith, append-nil, length-append}
+use Rattle.std.proofs.Common.{◌≡◌, ◌≤◌, ◌+◌, ℕ, zero, suc, List, [], ◌∷◌, length, map, refl, sym, ap, subst, ◌∙◌, arith, length-append}
 use Rattle.std.specs.Prelude.{Option, Some, None, flat_map, slice_get}
 use Rattle.std.specs.List.{AllByRecursion}
 use Rattle.std.proofs.lemmas.List.Sums.{sum_by-append, sum_by-cons}
 use Rattle.dfs_record.specs.declared.Key.{Key}
 use Rattle.dfs_record.specs.declared.Record.{Record}
-use Rattle.dfs_record.specs.Delta.{Delta, delta, merged, records_of}
+use Rattle.dfs_record.specs.Delta.{Delta, merged, records_of}
 use Rattle.dfs_record.specs.Records.{Files, KeysRise}
 use Rattle.dfs_cursor.specs.Ranges.{part}
 use Rattle.dfs_fence.specs.declared.fence.Fence.{Fence}

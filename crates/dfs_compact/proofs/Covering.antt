@@ -1,9 +1,7 @@
 -- The parts together are the whole.
 use Rattle.std.proofs.Common.{◌≡◌, ◌≤◌, ◌<◌, ◌+◌, ◌*◌, ◌/◌, ℕ, zero, suc, Bool, true, false, cond, ◌&&◌, nat_lt, List, [], ◌∷◌, ◌++◌, length, map, refl, sym, ap, subst, ◌∙◌, arith, append-nil, lt-ltb, le-ltb, length-append}
-use Rattle.std.specs.Prelude.{Option, Some, None, IsSome, IsTrue, flat_map, replicate, slice_get}
-use Rattle.std.specs.List.{AllByRecursion, sum_by}
-use Rattle.std.specs.List.Sorted.{IsPermutation}
-use Rattle.std.specs.Ordering.{is_le, is_lt}
+use Rattle.std.specs.Prelude.{Option, Some, None, IsSome, flat_map, replicate, slice_get}
+use Rattle.std.specs.List.{AllByRecursion}
 use Rattle.std.proofs.lemmas.Grind.{flat_map-append}
 use Rattle.std.proofs.lemmas.List.Sorted.{length_permutation}
 use Rattle.std.proofs.lemmas.List.Sums.{sum_by-append}
@@ -29,9 +27,9 @@ use Rattle.dfs_table.specs.Tables.{AreTables, all_fences}
 use Rattle.dfs_table.specs.Writer.{EndsPass}
 use Rattle.dfs_table.proofs.Rising.{all_records}
 use Rattle.dfs_table.proofs.Stays.{all_append, all_weaker}
-use Rattle.dfs_compact.specs.Compaction.{AreMerged, CompactionState, IsCompaction, IsPartOf, Stands}
-use Rattle.dfs_compact.specs.Parts.{AreSources, count_all, fences_in, first_keys, merged_part, tables_in, tables_of}
-use Rattle.dfs_compact.proofs.Cutting.{below_not_le, from_later, merged_part_is, merged_rises, two_parts}
+use Rattle.dfs_compact.specs.Compaction.{AreMerged, CompactionState, IsCompaction, Stands}
+use Rattle.dfs_compact.specs.Parts.{AreSources, count_all, fences_in, first_keys, tables_in, tables_of}
+use Rattle.dfs_compact.proofs.Cutting.{from_later, merged_part_is, merged_rises, two_parts}
 
 -- ---- boundaries
 

@@ -1,5 +1,5 @@
 -- Merged lists that are cut, and the cuts joined again.
-use Rattle.std.proofs.Common.{◌≡◌, ◌≤◌, ◌<◌, ◌+◌, ℕ, zero, suc, Bool, true, false, cond, ◌&&◌, not, T, if◌then◌else◌, List, [], ◌∷◌, ◌++◌, length, map, refl, sym, ap, subst, ◌∙◌, arith}
+use Rattle.std.proofs.Common.{◌≡◌, ◌≤◌, ◌+◌, ℕ, suc, Bool, true, false, cond, ◌&&◌, not, if◌then◌else◌, List, [], ◌∷◌, ◌++◌, length, map, refl, sym, ap, subst, ◌∙◌, arith}
 use Rattle.std.specs.Prelude.{Option, Some, None, fold, flat_map, filter, is_some}
 use Rattle.std.specs.List.{AllByRecursion, sum_by}
 use Rattle.std.specs.Cmp.{upto}
@@ -14,11 +14,11 @@ use Rattle.dfs_record.specs.declared.Value.{Value}
 use Rattle.dfs_record.specs.Delta.{Delta, delta, last_value, merged, or_else, records_of, with_record}
 use Rattle.dfs_record.specs.Key.{key_cmp, keys_total}
 use Rattle.dfs_record.specs.KeyMap.{get, len, empty}
-use Rattle.dfs_record.specs.Records.{KeysRise, IsBelow}
+use Rattle.dfs_record.specs.Records.{KeysRise}
 use Rattle.dfs_record.proofs.Maps.{alike_keys, same_map}
-use Rattle.dfs_record.proofs.Replays.{delta-records_of, get-delta, rising_records}
+use Rattle.dfs_record.proofs.Replays.{get-delta, rising_records}
 use Rattle.dfs_block.proofs.Rising.{below_second, rise_behind}
-use Rattle.dfs_cursor.specs.Ranges.{is_from, is_up_to, is_within, part, part_past}
+use Rattle.dfs_cursor.specs.Ranges.{is_from, is_within, part, part_past}
 use Rattle.dfs_fence.proofs.Orders.{at_most_below, less}
 use Rattle.dfs_merge.specs.Laws.{get-kept}
 use Rattle.dfs_merge.specs.Sources.{kept}

@@ -1,13 +1,12 @@
 -- The part of a run between two keys lies in the blocks that meet the range.
-use Rattle.std.proofs.Common.{◌≡◌, ℕ, zero, suc, ◌+◌, Bool, true, false, ◌&&◌, not, if◌then◌else◌, List, [], ◌∷◌, ◌++◌, take, map, refl, sym, ap, subst, ◌∙◌, arith, append_assoc, append-nil, length, ◌≤◌, take_all, length-append}
-use Rattle.std.specs.Prelude.{Option, Some, None, Result, Ok, Err, IfOk, slice_get, flat_map, filter}
+use Rattle.std.proofs.Common.{◌≡◌, ℕ, Bool, true, false, ◌&&◌, not, if◌then◌else◌, List, [], ◌∷◌, ◌++◌, map, refl, sym, ap, subst, ◌∙◌, arith, length, ◌≤◌, length-append}
+use Rattle.std.specs.Prelude.{Option, Some, None, Result, Ok, Err, IfOk, flat_map, filter}
 use Rattle.std.specs.List.{AllByRecursion, sum_by}
 use Rattle.std.specs.Ordering.{is_le, is_lt}
 use Rattle.std.specs.declared.cmp.Ordering.{Ordering}
 use Rattle.std.specs.declared.cmp.Ordering.TheVariants.{Less, Equal, Greater}
-use Rattle.std.proofs.lemmas.List.{map-append}
 use Rattle.std.proofs.lemmas.List.Elements.{filter-append}
-use Rattle.std.proofs.lemmas.List.Sums.{sum_by-append, sum_by-cons}
+use Rattle.std.proofs.lemmas.List.Sums.{sum_by-cons}
 use Rattle.std.proofs.lemmas.Option.{same_Some}
 use Rattle.dfs_record.specs.declared.Key.{Key}
 use Rattle.dfs_record.specs.declared.Record.{Record}
@@ -24,12 +23,12 @@ use Rattle.dfs_fence.proofs.Orders.{at_most_below, below_at_most, less, not_both
 use Rattle.dfs_merge.specs.Sources.{all_unread, sources}
 use Rattle.dfs_table.specs.declared.run.Run.{Run}
 use Rattle.dfs_table.specs.RunRecords.{records_meeting}
-use Rattle.dfs_table.specs.Stored.{IsBlockOf, records_at, records_by, run_records}
+use Rattle.dfs_table.specs.Stored.{IsBlockOf, records_at, records_by}
 use Rattle.dfs_table.specs.Tables.{all_fences}
 use Rattle.dfs_table.specs.Writer.{KeyPasses}
 use Rattle.dfs_table.proofs.Closing.{first_at_most_last}
 use Rattle.dfs_table.proofs.Rising.{all_blocks, all_records}
-use Rattle.dfs_compact.specs.Parts.{AreSources, IsSource, count_all}
+use Rattle.dfs_compact.specs.Parts.{IsSource}
 
 -- ---- a key between the two ends of a range and those of a block
 

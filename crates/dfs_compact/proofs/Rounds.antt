@@ -1,12 +1,11 @@
 -- One round of a loop over the sources, or over their blocks.
 use Rattle.std.proofs.Common.{◌≡◌, ◌≤◌, ◌<◌, ◌+◌, ℕ, zero, suc, List, [], ◌∷◌, ◌++◌, length, take, map, get_or, refl, sym, ap, subst, ◌∙◌, arith, append-nil, append_assoc}
-use Rattle.std.specs.Prelude.{Some, flat_map, slice_get}
-use Rattle.std.specs.List.{AllByRecursion, sum_by}
+use Rattle.std.specs.Prelude.{Some, slice_get}
+use Rattle.std.specs.List.{sum_by}
 use Rattle.std.proofs.lemmas.Grind.{flat_map-append}
-use Rattle.std.proofs.lemmas.List.{map-append, take_all, take_more}
+use Rattle.std.proofs.lemmas.List.{map-append, take_more}
 use Rattle.std.proofs.lemmas.List.Sums.{sum_by-append, sum_by-cons}
 use Rattle.std.proofs.lemmas.Option.{get_or_from_slice_get, slice_get_within}
-use Rattle.dfs_record.specs.declared.Key.{Key}
 use Rattle.dfs_record.specs.Delta.{Delta}
 use Rattle.dfs_record.specs.Records.{Files}
 use Rattle.dfs_fence.specs.declared.fence.Fence.{Fence}

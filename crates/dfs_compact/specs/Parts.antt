@@ -1,9 +1,8 @@
 -- The parts of a compaction: which records each has, and where they lie.
-use Rattle.std.specs.Prelude.{◌≡◌, ◌+◌, ℕ, List, [], ◌∷◌, map, flat_map, Option, Some, None, slice_get}
-use Rattle.std.specs.List.{sum_by}
+use Rattle.std.specs.Prelude.{ℕ, List, [], ◌∷◌, map, flat_map, Option, Some, None}
 use Rattle.dfs_record.specs.declared.Key.{Key}
 use Rattle.dfs_record.specs.declared.Record.{Record}
-use Rattle.dfs_record.specs.Delta.{Delta, delta, merged, records_of}
+use Rattle.dfs_record.specs.Delta.{Delta, merged, records_of}
 use Rattle.dfs_record.specs.Records.{Files}
 use Rattle.dfs_cursor.specs.Ranges.{part}
 use Rattle.dfs_fence.specs.declared.fence.Fence.{Fence}

@@ -1,6 +1,6 @@
-use Rattle.std.proofs.Common.{◌≡◌, ◌++◌, ◌∷◌, [], ◌∙◌, sym, ap, arith, append_assoc, length, vec_capacity}
+use Rattle.std.proofs.Common.{◌++◌, ◌∷◌, [], ◌∙◌, sym, ap, arith, append_assoc, length, vec_capacity}
 use Rattle.std.specs.Vec.Iter.{into_iter_items}
-use Rattle.dfs_compact.specs.Parts.{tables_in, tables_of}
+use Rattle.dfs_compact.specs.Parts.{tables_in}
 use Rattle.dfs_compact.proofs.Covering.{has_room, one_more_part}
 use Rattle.dfs_compact.proofs.compaction.join.Goals as goal
 

@@ -1,4 +1,4 @@
-use Rattle.std.proofs.Common.{◌≡◌, ◌++◌, ◌∙◌, sym, ap, map, take, arith, take_all}
+use Rattle.std.proofs.Common.{◌++◌, ◌∙◌, sym, ap, map, take, arith, take_all}
 use Rattle.dfs_fence.specs.declared.fence.Fence.{Fence}
 use Rattle.dfs_table.specs.Tables.{all_fences}
 use Rattle.dfs_compact.proofs.Rounds.{added, keys_of_table}

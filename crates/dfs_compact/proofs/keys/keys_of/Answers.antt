@@ -1,4 +1,4 @@
-use Rattle.std.proofs.Common.{◌≡◌, ◌++◌, ◌∙◌, sym, ap, map, take, arith, take_all}
+use Rattle.std.proofs.Common.{◌++◌, ◌∙◌, sym, ap, map, take, arith, take_all}
 use Rattle.std.specs.declared.rc.Rc.{Rc}
 use Rattle.std.proofs.Common.{Global}
 use Rattle.dfs_fence.specs.declared.fence.Fence.{Fence}

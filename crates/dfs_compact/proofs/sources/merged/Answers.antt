@@ -1,4 +1,4 @@
-use Rattle.std.proofs.Common.{◌≡◌, ◌≤◌, ◌∙◌, sym, ap, subst, arith, length, map, List}
+use Rattle.std.proofs.Common.{◌≤◌, ap, length, map, List}
 use Rattle.std.specs.Prelude.{option_copied}
 use Rattle.std.proofs.Common.{Global}
 use Rattle.std.specs.declared.rc.Rc.{Rc}
@@ -6,9 +6,8 @@ use Rattle.dfs_table.specs.declared.run.Run.{Run}
 use Rattle.std.specs.List.{AllByRecursion}
 use Rattle.dfs_record.specs.declared.Record.{Record}
 use Rattle.dfs_record.specs.Delta.{merged}
-use Rattle.dfs_cursor.specs.Ranges.{is_within, part}
+use Rattle.dfs_cursor.specs.Ranges.{is_within}
 use Rattle.dfs_table.specs.Writer.{KeyPasses}
-use Rattle.dfs_compact.specs.Cursors.{run_rest}
 use Rattle.dfs_compact.specs.Parts.{count_all}
 use Rattle.dfs_compact.proofs.Cutting.{few_of, merged_within}
 use Rattle.dfs_compact.proofs.Ranges.{none_unread, ok_by, ok_to}

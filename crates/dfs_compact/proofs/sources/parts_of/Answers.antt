@@ -1,12 +1,10 @@
-use Rattle.std.proofs.Common.{◌≡◌, ◌≤◌, ◌<◌, [], ◌∷◌, ◌∙◌, sym, ap, subst, arith, length, map, take, take_all, Global}
+use Rattle.std.proofs.Common.{◌<◌, [], ◌∷◌, ◌∙◌, sym, ap, subst, arith, length, map, take, take_all, Global}
 use Rattle.std.specs.Prelude.{option_copied}
 use Rattle.std.specs.List.{AllByRecursion}
 use Rattle.std.specs.declared.rc.Rc.{Rc}
 use Rattle.dfs_record.specs.Delta.{Delta, records_of}
 use Rattle.dfs_cursor.specs.Ranges.{part}
 use Rattle.dfs_table.specs.declared.run.Run.{Run}
-use Rattle.dfs_table.specs.Counts.{count_of}
-use Rattle.dfs_table.specs.Tables.{all_fences}
 use Rattle.dfs_table.proofs.Stays.{all_append}
 use Rattle.dfs_compact.specs.Parts.{IsSource, count_all}
 use Rattle.dfs_compact.proofs.Rounds.{as_many, count_further, rests_further, sum_of_run}

@@ -1,13 +1,10 @@
-use Rattle.std.proofs.Common.{◌≡◌, [], ◌∙◌, sym, ap, subst, arith, length, map, List, Global}
+use Rattle.std.proofs.Common.{◌≡◌, ◌∙◌, sym, ap, subst, arith, length, map, List, Global}
 use Rattle.std.specs.declared.rc.Rc.{Rc}
 use Rattle.std.specs.Prelude.{Some, Option, slice_get}
 use Rattle.std.specs.List.Sorted.{IsPermutation}
-use Rattle.std.specs.List.{AllByRecursion}
 use Rattle.std.proofs.lemmas.List.{length-replicate}
 use Rattle.dfs_record.specs.declared.Key.{Key}
-use Rattle.dfs_plan.specs.Plan.{IsPlan}
 use Rattle.dfs_table.specs.declared.run.Run.{Run}
-use Rattle.dfs_table.specs.declared.table.Table.{Table}
 use Rattle.dfs_table.specs.Writer.{AreIn}
 use Rattle.dfs_compact.specs.Parts.{first_keys, tables_of}
 use Rattle.dfs_compact.proofs.Covering.{none_at, none_have}

@@ -1,8 +1,6 @@
-use Rattle.std.proofs.Common.{◌≡◌, ◌∙◌, sym, ap, subst, arith, length, map}
+use Rattle.std.proofs.Common.{◌≡◌, ◌∙◌, sym, ap, subst, arith, map}
 use Rattle.std.specs.Prelude.{Some, None, slice_get}
-use Rattle.dfs_table.specs.declared.run.Run.{Run}
 use Rattle.dfs_compact.specs.Compaction.{CompactionState, IsPartOf}
-use Rattle.dfs_compact.specs.Parts.{tables_of}
 use Rattle.dfs_compact.proofs.Staying.{set_each, set_length, set_tables}
 use Rattle.dfs_compact.proofs.compaction.Compaction.keep.Goals as goal
 

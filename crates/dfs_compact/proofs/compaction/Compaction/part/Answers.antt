@@ -1,7 +1,7 @@
-use Rattle.std.proofs.Common.{◌≡◌, ◌≤◌, ◌+◌, ◌*◌, ◌∙◌, refl, sym, ap, subst, arith, length, map, List, true, false, Global}
+use Rattle.std.proofs.Common.{◌≡◌, ◌∙◌, refl, sym, ap, subst, arith, map, List, true, false, Global}
 use Rattle.std.specs.declared.rc.Rc.{Rc}
 use Rattle.dfs_host.specs.Host.{bytes_of}
-use Rattle.std.specs.Prelude.{Some, None, Option, slice_get, slice_set}
+use Rattle.std.specs.Prelude.{Some, Option, slice_get}
 use Rattle.std.proofs.lemmas.Option.{same_Some}
 use Rattle.std.proofs.lemmas.Result.{err_from_is_err_and}
 use Rattle.dfs_table.specs.declared.run.Run.{Run}

@@ -9,7 +9,7 @@ use Rattle.dfs_table.specs.declared.table.Table.{Table}
 use Rattle.dfs_table.specs.Counts.{count_of}
 use Rattle.dfs_table.specs.Tables.{AreTables, all_fences}
 use Rattle.dfs_compact.specs.Compaction.{CompactionState, Stands}
-use Rattle.dfs_compact.specs.Parts.{count_all, tables_of}
+use Rattle.dfs_compact.specs.Parts.{count_all}
 use Rattle.dfs_compact.proofs.Counting.{few_in_all}
 use Rattle.dfs_compact.proofs.Covering.{all_stored, all_tables, join_few, only_merged}
 use Rattle.dfs_compact.proofs.compaction.Compaction.take.Goals as goal

@@ -1,0 +1,4 @@
+pub mod FolderHost
+pub mod Names
+pub mod Opened
+pub mod Silent

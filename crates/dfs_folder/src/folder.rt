@@ -1,0 +1,156 @@
+//! A folder with numbered files, over the system's calls.
+ghost use Rattle.std.specs.Prelude.{◌≤◌, ◌<◌, ◌+◌, ◌^◌, length, IfOk};
+
+use crate::names::Paths;
+use crate::opened::OpenFiles;
+use dfs_host::NoMemory;
+use std::alloc::Global;
+use std::fs::{File, OpenOptions};
+use std::io;
+use std::os::fd::AsRawFd;
+use std::os::unix::fs::FileExt;
+
+// The last place that the system can name.
+const LAST_PLACE: u64 = (1 << 63) - 1;
+
+// Where a standard stream was closed before the start, a file may get its number. It gets another one, so that nothing that is said
+// lands in it.
+fn apart_from_streams(file: File) -> io::Result<File> {
+    if file.as_raw_fd() <= 2 {
+        return file.try_clone();
+    }
+    Ok(file)
+}
+
+fn open_file(runtime: &HostRuntime, path: &str) -> io::Result<File> {
+    let file = OpenOptions::new()
+        .read(true)
+        .write(true)
+        .open(runtime, path)?;
+    apart_from_streams(file)
+}
+
+fn make_file(runtime: &HostRuntime, path: &str) -> io::Result<File> {
+    let file = OpenOptions::new()
+        .read(true)
+        .write(true)
+        .create_new(true)
+        .open(runtime, path)?;
+    apart_from_streams(file)
+}
+
+// Reads on until `out` is full or the file ends.
+fn read_full(file: &File, at: u64, out: &mut [u8]) -> io::Result<usize>
+    requires { at < 2 ^ 63 }
+    ensures bound { IfOk result (λ count. count ≤ length out.old) }
+{
+    let mut count = 0;
+    while count < out.len() {
+        let more = file.read_at(&mut out[count..], at + count as u64)?;
+        if more == 0 {
+            return Ok(count);
+        }
+        count += more;
+    }
+    Ok(count)
+}
+
+// The folder and its files. Some of them are open, and the folder itself is from the first call on that looks into it.
+#[derive(Drop)]
+pub struct Folder {
+    runtime: HostRuntime,
+    paths: Paths,
+    folder: Option<File>,
+    files: OpenFiles,
+}
+
+impl Folder {
+    ghost use Rattle.std.specs.Prelude.{◌≤◌, length, IfOk, IsTrue};
+    ghost use Rattle.dfs_folder.specs.Opened.{HasLatest};
+
+    pub fn new(alloc: Global, runtime: HostRuntime, folder: &str) -> Result<Folder, NoMemory> {
+        let paths = Paths::new(alloc, folder)?;
+        let files = OpenFiles::new(alloc)?;
+        Ok(Folder {
+            runtime,
+            paths,
+            folder: None,
+            files,
+        })
+    }
+
+    // The folder itself, open.
+    fn folder(&mut self) -> io::Result<&File> {
+        if self.folder.is_none() {
+            let folder = File::open(&self.runtime, self.paths.folder())?;
+            self.folder = Some(apart_from_streams(folder)?);
+        }
+        let Some(folder) = &self.folder else {
+            unreachable!();
+        };
+        Ok(folder)
+    }
+
+    // Whether the file was ever made; it is the one used last then. A folder that is missing is an error.
+    fn find(&mut self, number: u32) -> io::Result<bool>
+        ensures { IfOk result (λ found. IsTrue found → HasLatest self.new.files) }
+    {
+        if self.files.find(number) {
+            return Ok(true);
+        }
+        self.folder()?;
+        self.paths.turn_to(number);
+        match open_file(&self.runtime, self.paths.path()) {
+            Ok(file) => {
+                self.files.keep(number, file);
+                Ok(true)
+            }
+            Err(error) if error.kind() == io::ErrorKind::NotFound => Ok(false),
+            Err(error) => Err(error),
+        }
+    }
+
+    // The file, which is made where it never was. The folder is synced then.
+    fn find_or_make(&mut self, number: u32) -> io::Result<&File> {
+        let found = self.find(number)?;
+        if !found {
+            self.paths.turn_to(number);
+            let file = make_file(&self.runtime, self.paths.path())?;
+            self.folder()?.sync_all()?;
+            self.files.keep(number, file);
+        }
+        Ok(self.files.latest())
+    }
+
+    pub fn len(&mut self, number: u32) -> io::Result<u64> {
+        if !self.find(number)? {
+            return Ok(0);
+        }
+        Ok(self.files.latest().metadata()?.len())
+    }
+
+    pub fn read(&mut self, number: u32, at: u64, out: &mut [u8]) -> io::Result<usize>
+        ensures bound { IfOk result (λ count. count ≤ length out.old) }
+    {
+        if at > LAST_PLACE || !self.find(number)? {
+            return Ok(0);
+        }
+        read_full(self.files.latest(), at, out)
+    }
+
+    pub fn write(&mut self, number: u32, at: u64, bytes: &[u8]) -> io::Result<()> {
+        self.find_or_make(number)?.write_all_at(bytes, at)
+    }
+
+    pub fn cut(&mut self, number: u32, len: u64) -> io::Result<()> {
+        self.find_or_make(number)?.set_len(len)
+    }
+
+    // A file that was never made has nothing to settle.
+    pub fn sync(&mut self, number: u32) -> io::Result<()> {
+        if !self.find(number)? {
+            return Ok(());
+        }
+        self.files.latest().sync_all()
+    }
+}

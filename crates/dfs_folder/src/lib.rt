@@ -8,6 +8,7 @@
 mod answer;
 mod folder;
 mod host;
+mod laws;
 mod names;
 mod opened;
 mod source;
@@ -15,4 +16,5 @@ mod source;
 mod tests;
 
 pub use host::FolderHost;
+pub use laws::own_names;
 pub use source::StdinSource;

@@ -145,8 +145,7 @@ module _ (before after : HostState) (ls : List Listed) (greatest n : ℕ) (other
       by : (b : Bool) → (lookup test es ≡ Some old → AllZip (EntryStands after) (set_value test es x) (set_value test fs j)) → cond b (Some e.1) (lookup test es) ≡ Some old
           → AllZip (EntryStands after) (cond b ((e.0, x) ∷ es) (e ∷ set_value test es x)) (cond b ((f.0, j) ∷ fs) (f ∷ set_value test fs j))
       by true rest first =
-          let number : number_of e.1 ≡ n = ap number_of (same_job e.1 old first) ∙ same in
-          (
+          let number : number_of e.1 ≡ n = ap number_of (same_job e.1 old first) ∙ same in (
             record { word = zip.0.word; job = stands },
             zip_stays before after es fs (keep_jobs es live.1 (mapped (λ g. number_of e.1 ≢ number_of g.1) (λ g. number_of g.1 ≢ n) es (λ g other is. other (number ∙ sym is)) apart.0)) zip.1,
           )

@@ -91,7 +91,7 @@ module _ (files : ℕ → List ℕ) (ls : List Listed) (names : List SnapName) (
   next_chosen start same cs c d has stored selectable so_far =
       let p : Publication = publication_of files l in
       let next : publications_of (bytes_of start) (chosen_in ls (take (k + 1) names)) ≡ was ++ p ∷ [] =
-          ap (λ f. publications_of f (chosen_in ls (take (k + 1) names))) same ∙ ap (publications_of files) chosen_next ∙ map-append (publication_of files) (chosen_in ls (take k names)) (l ∷ []) in
+      ap (λ f. publications_of f (chosen_in ls (take (k + 1) names))) same ∙ ap (publications_of files) chosen_next ∙ map-append (publication_of files) (chosen_in ls (take k names)) (l ∷ []) in
       let before : publications_of (bytes_of start) (chosen_in ls (take k names)) ≡ was = ap (λ f. publications_of f (chosen_in ls (take k names))) same in
       let changes : changes_of (was ++ p ∷ []) ≡ changes_of was ++ d ∷ [] = filter_map-append (λ q. q.change) was (p ∷ []) ∙ ap (λ (o : Option Delta). changes_of was ++ cons_option o []) has in
       record {
@@ -106,7 +106,7 @@ module _ (files : ℕ → List ℕ) (ls : List Listed) (names : List SnapName) (
       let p : Publication = publication_of files l in
       let rest : Registry = publications_of files (chosen_in ls (drop (k + 1) names)) in
       let whole : publications_of (bytes_of start) (chosen_in ls names) ≡ was ++ p ∷ rest =
-          ap (λ f. publications_of f (chosen_in ls names)) same ∙ ap (publications_of files) chosen_whole ∙ map-append (publication_of files) (chosen_in ls (take k names)) (l ∷ chosen_in ls (drop (k + 1) names)) in
+      ap (λ f. publications_of f (chosen_in ls names)) same ∙ ap (publications_of files) chosen_whole ∙ map-append (publication_of files) (chosen_in ls (take k names)) (l ∷ chosen_in ls (drop (k + 1) names)) in
       let before : publications_of (bytes_of start) (chosen_in ls (take k names)) ≡ was = ap (λ f. publications_of f (chosen_in ls (take k names))) same in
       (p, ap (find is_damaged) whole ∙ find-append is_damaged was (p ∷ rest) (ap (find is_damaged) (sym before) ∙ so_far.whole) ∙ ap (λ (o : Option Delta). cond (not (is_some o)) (Some p) (find is_damaged rest)) has, refl)
 

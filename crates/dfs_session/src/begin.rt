@@ -1,8 +1,8 @@
 //! Begins: what a job selects, and the job over it.
 
+use crate::Session;
 use crate::selection::{Selection, select};
 use crate::session::text_of;
-use crate::Session;
 use dfs_change::Change;
 use dfs_host::{Fault, Host};
 use dfs_job::Job;

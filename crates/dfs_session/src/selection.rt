@@ -53,11 +53,7 @@ pub fn select<H: Host>(
 }
 
 // The change set of an entry, and `None` where its log is damaged.
-fn open<H: Host>(
-    alloc: Global,
-    host: &mut H,
-    listed: &Listed,
-) -> Result<Option<Rc<Change>>, Fault>
+fn open<H: Host>(alloc: Global, host: &mut H, listed: &Listed) -> Result<Option<Rc<Change>>, Fault>
     ensures opened { Told (H.state host.old) (IfOk result (λ found. IfSome found (λ change. IsOpened (H.state host.old) listed.now change.value))) }
     ensures damaged { Told (H.state host.old) (IfOk result (λ found. IfNone found (log_meaning (bytes_of (H.state host.old) listed.now.job) listed.now ≡ None))) }
     ensures listed { IfOk result (λ found. IfSome found (λ change. change.value.listed ≡ listed.now)) }

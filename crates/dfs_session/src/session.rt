@@ -4,8 +4,8 @@ ghost use Rattle.std.specs.Prelude.{◌≡◌, ◌≤◌, IfOk, IfErr, OnOk};
 ghost use Rattle.dfs_registry.specs.Body.{greatest_job};
 ghost use Rattle.dfs_reply.specs.Text.{text};
 
-use dfs_job::{Job, Settings};
 use dfs_host::{Fault, Host};
+use dfs_job::{Job, Settings};
 use dfs_registry::{RegFault, Registry};
 use dfs_reply::{Reply, Word, print};
 use dfs_script::{JobWord, Line, LineFault, read_line};

@@ -1,11 +1,10 @@
 -- What the keys of all records pass, the ends of the blocks written of them pass.
-use Rattle.std.proofs.Common.{◌≡◌, ◌≤◌, ◌+◌, ◌*◌, ℕ, Bool, true, false, List, [], ◌∷◌, ◌++◌, inl, inr, length, refl, sym, ap, subst, ◌∙◌, arith, append_assoc, append-nil, ltb-true, ltb-false, length-append}
-use Rattle.std.specs.Prelude.{Option, Some, None, ◌⊎◌, nat_lt, Result, IfOk, OnOk, Ok, Err}
+use Rattle.std.proofs.Common.{◌≡◌, ◌≤◌, ◌+◌, ◌*◌, Bool, true, false, List, [], ◌∷◌, ◌++◌, length, refl, sym, ap, subst, ◌∙◌, arith, append_assoc, ltb-true, ltb-false, length-append}
+use Rattle.std.specs.Prelude.{Some, nat_lt, Result, IfOk, Ok, Err}
 use Rattle.std.specs.List.{AllByRecursion}
 use Rattle.dfs_record.specs.declared.Key.{Key}
 use Rattle.dfs_record.specs.declared.Record.{Record}
 use Rattle.dfs_block.specs.Block.{block_bytes, first_key, last_key, most_bytes}
-use Rattle.dfs_fence.specs.declared.fence.Fence.{Fence}
 use Rattle.dfs_fence.proofs.Spelled.{some_is}
 use Rattle.dfs_table.specs.declared.run.Run.{Run}
 use Rattle.dfs_table.specs.declared.table.Table.{Table}

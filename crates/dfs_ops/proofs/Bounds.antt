@@ -1,7 +1,7 @@
 -- What operations make and leave: valid records, with the identities that a job may have.
 use Rattle.std.proofs.Common.{◌≡◌, ◌≢◌, ◌⊎◌, inl, inr, ℕ, ◌+◌, ◌<◌, ◌≤◌, ◌^◌, nat_lt, Bool, true, false, cond, List, [], ◌∷◌, length, All, refl, sym, ap, subst, ◌∙◌, arith, add-zero}
 use Rattle.std.specs.Prelude.{Option, Some, None, ◌&&◌}
-use Rattle.std.specs.List.{list_all, list_any}
+use Rattle.std.specs.List.{list_all}
 use Rattle.std.specs.Ordering.{is_eq, eq_by_cmp}
 use Rattle.std.specs.declared.cmp.Ordering.{Ordering}
 use Rattle.std.specs.declared.cmp.Ordering.TheVariants.{Less, Equal, Greater}
@@ -17,23 +17,22 @@ use Rattle.dfs_record.specs.declared.Value.TheVariants.{Del, Put}
 use Rattle.dfs_record.specs.declared.Record.{Record}
 use Rattle.dfs_record.specs.Key.{root, key_cmp, keys_exact}
 use Rattle.dfs_record.specs.KeyMap.{empty, get}
-use Rattle.dfs_record.specs.Name.{is_name, IsName}
+use Rattle.dfs_record.specs.Name.{is_name}
 use Rattle.dfs_record.specs.Namespace.{Namespace, after_record, after_records}
-use Rattle.dfs_record.specs.Record.{IsId, IsKey, IsEntry, IsValue, IsRecord}
+use Rattle.dfs_record.specs.Record.{IsId, IsKey, IsEntry, IsRecord}
 use Rattle.dfs_record.proofs.Maps.{get-insert, get-remove}
 use Rattle.dfs_path.specs.Op.{IsOp}
-use Rattle.dfs_path.specs.Path.{IsPath, is_path}
+use Rattle.dfs_path.specs.Path.{IsPath}
 use Rattle.dfs_path.specs.declared.Op.{Op}
 use Rattle.dfs_path.specs.declared.Op.TheVariants.{Mkdir, Create, Unlink, Rmdir, Rename, Setattr, Stat, List as ListOp}
 use Rattle.dfs_space.specs.Children.{has_child}
 use Rattle.dfs_walk.specs.declared.Walked.{Walked}
-use Rattle.dfs_walk.specs.Walk.{Walk, no_entry, not_dir, at, passing_by, through, walk_from, walk, at_root}
+use Rattle.dfs_walk.specs.Walk.{Walk, no_entry, not_dir, at, passing_by, through, walk_from, walk}
 use Rattle.dfs_ops.specs.declared.Ids.{Ids}
 use Rattle.dfs_ops.specs.declared.OpReply.{OpReply}
-use Rattle.dfs_ops.specs.declared.OpReply.TheVariants.{Done, Entry as EntryReply, Listing, Root, NoEnt, NotDir, IsDir, Exists, NotEmpty, Inside, Full}
-use Rattle.dfs_ops.specs.Applied.{makes_dir}
-use Rattle.dfs_ops.specs.Op.{Outcome, only, makes, put, del, where_it_ends, at_place, with_found, below_root, found_at, is_found, adds, unlinks, unlinks_entry, rmdirs, rmdirs_entry, sets_attributes, with_attributes, lists, is_among, replaces, moves, takes, is_root, next_id, outcome, AreIds, counted, ids_after}
-use Rattle.dfs_ops.specs.Within.{IsIdWithin, IsEntryWithin, IsValueWithin, IsRecordWithin, IsWithin, MakesWithin, LeavesWithin, StaysWithin, IsBounded, EachBounded}
+use Rattle.dfs_ops.specs.declared.OpReply.TheVariants.{Done, Root, NoEnt, NotDir, IsDir, Exists, NotEmpty, Inside, Full}
+use Rattle.dfs_ops.specs.Op.{Outcome, only, makes, put, del, where_it_ends, at_place, with_found, below_root, is_found, adds, unlinks_entry, rmdirs_entry, sets_attributes, with_attributes, lists, is_among, replaces, moves, is_root, next_id, outcome, AreIds, counted, ids_after}
+use Rattle.dfs_ops.specs.Within.{IsIdWithin, IsEntryWithin, IsValueWithin, IsRecordWithin, IsWithin, MakesWithin, LeavesWithin, StaysWithin, LeavesEmpty, IsBounded, EachBounded}
 
 -- Later numbers.
 
@@ -62,25 +61,32 @@ tied Less h = absurd (cc h)
 tied Equal h = refl
 tied Greater h = absurd (cc h)
 
-put_at : (ids : Ids) (m : Namespace) (key q : Key) (x e : Entry) (b : Bool) → eq_by_cmp key_cmp q key ≡ b → IsWithin ids m → IsRecordWithin ids (put key x) → cond b (Some x) (get m q) ≡ Some e → IsRecordWithin ids (put q e)
-put_at ids m key q x e true same within new is =
-    let one : q ≡ key = keys_exact q key (tied _ same) in
-    let other : x ≡ e = cc is in
-    subst (λ (p : Key × Entry). IsRecordWithin ids (put p.0 p.1)) (λ i. (sym one i, other i)) new
-put_at ids m key q x e false same within new is = within q e is
+-- what stands in the namespace is so
+abbrev HasSuch : (Record → Type 0) → Namespace → Type 0
+HasSuch P m = (key : Key) (entry : Entry) → get m key ≡ Some entry → P (put key entry)
 
-deleted_at : (ids : Ids) (m : Namespace) (q : Key) (e : Entry) (b : Bool) → IsWithin ids m → cond b None (get m q) ≡ Some e → IsRecordWithin ids (put q e)
-deleted_at ids m q e true within is = absurd (cc is)
-deleted_at ids m q e false within is = within q e is
+module _ (P : Record → Type 0) where
+  put_at : (m : Namespace) (key q : Key) (x e : Entry) (b : Bool) → eq_by_cmp key_cmp q key ≡ b → HasSuch P m → P (put key x) → cond b (Some x) (get m q) ≡ Some e → P (put q e)
+  put_at m key q x e true same such new is =
+      let one : q ≡ key = keys_exact q key (tied _ same) in
+      let other : x ≡ e = cc is in
+      subst (λ (p : Key × Entry). P (put p.0 p.1)) (λ i. (sym one i, other i)) new
+  put_at m key q x e false same such new is = such q e is
 
-after_one : (ids : Ids) (m : Namespace) (key : Key) (value : Value) → IsWithin ids m → IsRecordWithin ids (record { key = key; value = value }) → IsWithin ids (after_record m (record { key = key; value = value }))
-after_one ids m key Del within new q e is = deleted_at ids m q e _ within (sym (get-remove m key q) ∙ is)
-after_one ids m key (Put x) within new q e is = put_at ids m key q x e _ refl within new (sym (get-insert m key x q) ∙ is)
+  deleted_at : (m : Namespace) (q : Key) (e : Entry) (b : Bool) → HasSuch P m → cond b None (get m q) ≡ Some e → P (put q e)
+  deleted_at m q e true such is = absurd (cc is)
+  deleted_at m q e false such is = such q e is
+
+  after_one : (m : Namespace) (key : Key) (value : Value) → HasSuch P m → P (record { key = key; value = value }) → HasSuch P (after_record m (record { key = key; value = value }))
+  after_one m key Del such new q e is = deleted_at m q e _ such (sym (get-remove m key q) ∙ is)
+  after_one m key (Put x) such new q e is = put_at m key q x e _ refl such new (sym (get-insert m key x q) ∙ is)
+
+  stays_such : (m : Namespace) (rs : List Record) → HasSuch P m → All P rs → HasSuch P (after_records m rs)
+  stays_such m [] such all = such
+  stays_such m (r ∷ rs) such all = stays_such (after_record m r) rs (after_one m r.key r.value such (All-head P r rs all)) (All-tail P r rs all)
 
 pub stays_within : StaysWithin
-stays_within m ids [] within all = within
-stays_within m ids (r ∷ rs) within all =
-    stays_within (after_record m r) ids rs (after_one ids m r.key r.value within (All-head (IsRecordWithin ids) r rs all)) (All-tail (IsRecordWithin ids) r rs all)
+stays_within m ids rs within all = stays_such (IsRecordWithin ids) m rs within all
 
 -- An outcome is an answer with no record, or what a list of records makes.
 
@@ -183,6 +189,12 @@ names_of path valid = head_of _ _ (head_of _ _ valid)
 root_within : (ids : Ids) → AreIds ids → IsIdWithin ids root
 root_within ids are = record { job = omega arith; counter = λ same. let low = are.job in absurd (omega (arith, low, same)) }
 
+-- a record of an operation: it stands in a directory that was there, and its entry may be the directory that was made
+record IsNew (ids : Ids) (n : ℕ) (used : Bool) (rec : Record) : Type 0 where
+  valid : IsRecord rec
+  parent : IsIdWithin ids rec.key.parent
+  value : IsValueWithin (counted ids n used) rec.value
+
 module _ (m : Namespace) (ids : Ids) (op : Op) where
   record Given : Type 0 where
     are : AreIds ids
@@ -193,13 +205,13 @@ module _ (m : Namespace) (ids : Ids) (op : Op) where
   record Makes (rs : List Record) (used : Bool) : Type 0 where
     some : 1 ≤ length rs
     few : length rs ≤ 2
-    valid : Given → All (IsRecordWithin (counted ids (length rs) used)) rs
+    valid : Given → All (IsNew ids (length rs) used) rs
 
-  single : (rec : Record) (used : Bool) → (Given → IsRecordWithin (counted ids 1 used) rec) → IsMade ids Makes (makes ids (rec ∷ []) used)
+  single : (rec : Record) (used : Bool) → (Given → IsNew ids 1 used rec) → IsMade ids Makes (makes ids (rec ∷ []) used)
   single rec used valid = made_of ids Makes (rec ∷ []) used (record {
     some = omega arith;
     few = omega arith;
-    valid = λ given. All-cons (IsRecordWithin (counted ids 1 used)) rec [] (valid given) (All-nil (IsRecordWithin (counted ids 1 used)));
+    valid = λ given. All-cons (IsNew ids 1 used) rec [] (valid given) (All-nil (IsNew ids 1 used));
   })
 
   below_made : (path : List Name) (f : Walked → Key → Outcome) → (Given → IsPath path)
@@ -213,7 +225,7 @@ module _ (m : Namespace) (ids : Ids) (op : Op) where
 
   deletes : (key : Key) (found : Option Entry) → (Given → IsGood ids found key) → IsMade ids Makes (makes ids (del key ∷ []) false)
   deletes key found good = single (del key) false (λ given.
-      record { valid = record { key = (good given).valid; value = tt }; parent = later_id ids 1 false _ (good given).parent; value = tt })
+      record { valid = record { key = (good given).valid; value = tt }; parent = (good given).parent; value = tt })
 
   unlinks_made : (w : Walked) (key : Key) → (Given → IsGood ids w.found key) → (e : Entry) → IsMade ids Makes (unlinks_entry ids key e)
   unlinks_made w key good (Dir id mode time) = answers ids Makes IsDir
@@ -234,25 +246,25 @@ module _ (m : Namespace) (ids : Ids) (op : Op) where
   sets_made : (mode time : ℕ) (w : Walked) (key : Key) → (Given → mode ≤ 4095) → (Given → time < 2 ^ 64) → (Given → IsGood ids w.found key) → IsMade ids Makes (sets_attributes ids mode time w key)
   sets_made mode time w key low high good = found_made ids Makes w.found _ (λ e found. single (put key (with_attributes e mode time)) false (λ given.
       let changed = changed_good mode time e (low given) (high given) ((good given).entry e found) in
-      record { valid = record { key = (good given).valid; value = changed.0 }; parent = later_id ids 1 false _ (good given).parent; value = changed.1 }))
+      record { valid = record { key = (good given).valid; value = changed.0 }; parent = (good given).parent; value = changed.1 }))
 
   adds_made : (e : Entry) (used : Bool) (w : Walked) (key : Key) → (Given → IsEntry e) → (Given → IsEntryWithin (counted ids 1 used) e) → (Given → IsGood ids w.found key) → IsMade ids Makes (adds ids e used w key)
   adds_made e used w key valid within good = one_of ids Makes (is_found w.found) _ _ (answers ids Makes Exists) (single (put key e) used (λ given.
-      record { valid = record { key = (good given).valid; value = valid given }; parent = later_id ids 1 used _ (good given).parent; value = within given }))
+      record { valid = record { key = (good given).valid; value = valid given }; parent = (good given).parent; value = within given }))
 
   moves_made : (from : Key) (e : Entry) (w : Walked) (key : Key) → (Given → IsKey from) → (Given → IsIdWithin ids from.parent) → (Given → IsEntry e × IsEntryWithin ids e) → (Given → IsGood ids w.found key)
       → IsMade ids Makes (moves m ids from e w key)
   moves_made from e w key valid parent entry good =
-      let P : Record → Type 0 = IsRecordWithin (counted ids 2 false) in
+      let P : Record → Type 0 = IsNew ids 2 false in
       one_of ids Makes (is_eq (key_cmp from key)) _ _ (answers ids Makes Done)
       (one_of ids Makes (is_among e w.passed) _ _ (answers ids Makes Inside)
       (replaces_made ids Makes m e w.found _ (made_of ids Makes (del from ∷ put key e ∷ []) false (record {
         some = omega arith;
         few = omega arith;
         valid = λ given. All-cons P (del from) (put key e ∷ [])
-            (record { valid = record { key = valid given; value = tt }; parent = later_id ids 2 false _ (parent given); value = tt })
+            (record { valid = record { key = valid given; value = tt }; parent = parent given; value = tt })
             (All-cons P (put key e) []
-            (record { valid = record { key = (good given).valid; value = (entry given).0 }; parent = later_id ids 2 false _ (good given).parent; value = later_value ids 2 false (Put e) (entry given).1 })
+            (record { valid = record { key = (good given).valid; value = (entry given).0 }; parent = (good given).parent; value = later_value ids 2 false (Put e) (entry given).1 })
             (All-nil P));
       }))))
 
@@ -284,22 +296,43 @@ outcome_made m ids (ListOp path) = walk_made ids _ (walk m path) _ (λ w ends. f
 
 -- The laws.
 
-within_of : (m : Namespace) (ids : Ids) (op : Op) (o : Outcome) → IsMade ids (Makes m ids op) o → Given m ids op → All (IsRecordWithin (ids_after ids o)) o.records
-within_of m ids op o (inl answer) given = subst (λ (o : Outcome). All (IsRecordWithin (ids_after ids o)) o.records) (sym answer.1) (All-nil _)
-within_of m ids op o (inr made) given =
-    let Fine : Outcome → Type 0 = λ o. All (IsRecordWithin (ids_after ids o)) o.records in
+new_of : (m : Namespace) (ids : Ids) (op : Op) (o : Outcome) → IsMade ids (Makes m ids op) o → Given m ids op → All (IsNew ids (length o.records) o.used) o.records
+new_of m ids op o (inl answer) given = subst (λ (o : Outcome). All (IsNew ids (length o.records) o.used) o.records) (sym answer.1) (All-nil _)
+new_of m ids op o (inr made) given =
+    let Fine : Outcome → Type 0 = λ o. All (IsNew ids (length o.records) o.used) o.records in
     subst Fine (sym made.2) (elim (nat_lt 1048576 (ids.made + length made.0)) as (λ b. Fine (cond b (only Full) (record { answer = Done; records = made.0; used = made.1 }))) [
       | true ↦ All-nil _
       | false ↦ made.3.valid given
     ])
 
+all_new : (m : Namespace) (ids : Ids) (op : Op) → AreIds ids → IsOp op → IsWithin ids m → All (IsNew ids (length (outcome m ids op).records) (outcome m ids op).used) (outcome m ids op).records
+all_new m ids op are valid within = new_of m ids op _ (outcome_made m ids op) (record { are = are; valid = valid; within = within })
+
 pub makes_within : MakesWithin
-makes_within m ids op are valid within = within_of m ids op _ (outcome_made m ids op) (record { are = are; valid = valid; within = within })
+makes_within m ids op are valid within =
+    let o = outcome m ids op in
+    All-weaker (IsNew ids (length o.records) o.used) (IsRecordWithin (ids_after ids o)) (λ r new. record { valid = new.valid; parent = later_id ids (length o.records) o.used r.key.parent new.parent; value = new.value }) o.records
+    (all_new m ids op are valid within)
 
 pub leaves_within : LeavesWithin
 leaves_within m ids op are valid within =
     let o = outcome m ids op in
     stays_within m (ids_after ids o) o.records (map_later ids (length o.records) o.used m within) (makes_within m ids op are valid within)
+
+-- it stands in a directory that may be there
+abbrev HasParentWithin : Ids → Record → Type 0
+HasParentWithin ids rec = IsIdWithin ids rec.key.parent
+
+-- the next directory is none of them
+not_next : (ids : Ids) (id : DirId) → IsIdWithin ids id → id ≢ next_id ids
+not_next ids id within same = let bound = within.counter (ap (λ (d : DirId). d.job) same) in absurd (omega (arith, bound, ap (λ (d : DirId). d.counter) same))
+
+pub leaves_empty : LeavesEmpty
+leaves_empty m ids op are valid within =
+    let o = outcome m ids op in
+    let new = All-weaker (IsNew ids (length o.records) o.used) (HasParentWithin ids) (λ r new. new.parent) o.records (all_new m ids op are valid within) in
+    let below = stays_such (HasParentWithin ids) m o.records (λ key entry is. (within key entry is).parent) new in
+    λ key entry is. not_next ids key.parent (below key entry is)
 
 same_numbers : (ids : Ids) → counted ids 0 false ≡ ids
 same_numbers ids = λ i. record { job = ids.job; counter = add-zero ids.counter i; made = add-zero ids.made i }

@@ -1,13 +1,13 @@
 -- From a plan to what the operation did.
-use Rattle.std.proofs.Common.{◌≡◌, ℕ, ◌+◌, Bool, false, List, [], ◌∷◌, ◌++◌, length, Result, Ok, Err, OnOk, OnErr, IfOk, IsErrOf, refl, sym, ap, subst, ◌∙◌, add-zero}
-use Rattle.std.specs.Prelude.{Option, Some, None}
+use Rattle.std.proofs.Common.{◌≡◌, ℕ, ◌+◌, Bool, false, List, [], ◌++◌, length, Result, Ok, Err, OnOk, OnErr, IfOk, IsErrOf, sym, ap, subst, ◌∙◌, add-zero}
+use Rattle.std.specs.Prelude.{Option}
 use mathlib.Core.List.{IsPrefix}
 use Rattle.dfs_host.specs.declared.fault.Fault.{Fault}
 use Rattle.dfs_host.specs.declared.fault.Fault.TheVariants.{LogFull}
 use Rattle.dfs_record.specs.declared.Key.{Key}
 use Rattle.dfs_record.specs.declared.Name.{Name}
 use Rattle.dfs_record.specs.declared.Record.{Record}
-use Rattle.dfs_record.specs.Namespace.{Namespace, after_records}
+use Rattle.dfs_record.specs.Namespace.{Namespace}
 use Rattle.dfs_path.specs.declared.Op.{Op}
 use Rattle.dfs_space.specs.Space.{SpaceState, HasSpaceCause, HasRead}
 use Rattle.dfs_walk.specs.declared.Walked.{Walked}

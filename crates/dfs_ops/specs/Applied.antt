@@ -1,5 +1,5 @@
 -- What an operation did to a space and to the numbers of its job, on every space.
-use Rattle.std.specs.Prelude.{◌≡◌, ◌≤◌, ℕ, Bool, true, false, List, [], length, Result, Ok, Err, OnOk, OnErr, IsErrOf, All, ◌⊎◌}
+use Rattle.std.specs.Prelude.{◌≡◌, ◌≤◌, Bool, true, false, List, [], length, Result, Ok, Err, OnOk, OnErr, IsErrOf, All, ◌⊎◌}
 use mathlib.Core.List.{IsPrefix}
 use Rattle.dfs_host.specs.declared.fault.Fault.{Fault}
 use Rattle.dfs_host.specs.declared.fault.Fault.TheVariants.{LogFull}

@@ -14,7 +14,7 @@ use Rattle.dfs_path.specs.Op.{IsOp}
 use Rattle.dfs_path.specs.declared.Op.{Op}
 use Rattle.dfs_ops.specs.declared.Ids.{Ids}
 use Rattle.dfs_ops.specs.declared.OpReply.TheVariants.{Done}
-use Rattle.dfs_ops.specs.Op.{Outcome, outcome, ids_after, AreIds, put}
+use Rattle.dfs_ops.specs.Op.{Outcome, outcome, ids_after, AreIds, next_id, put}
 
 -- an identity of an earlier job, or one that this job has made
 pub record IsIdWithin (ids : Ids) (id : DirId) : Type 0 where
@@ -50,6 +50,14 @@ LeavesWithin = (m : Namespace) (ids : Ids) (op : Op) → AreIds ids → IsOp op 
 -- such records leave such a namespace, whichever they are
 abbrev pub StaysWithin : Type 0
 StaysWithin = (m : Namespace) (ids : Ids) (rs : List Record) → IsWithin ids m → All (IsRecordWithin ids) rs → IsWithin ids (after_records m rs)
+
+-- nothing stands in the directory
+abbrev pub HasNothingIn : Namespace → DirId → Type 0
+HasNothingIn m dir = (key : Key) (entry : Entry) → get m key ≡ Some entry → key.parent ≢ dir
+
+-- After an operation nothing stands in the directory that it made, or would have made.
+abbrev pub LeavesEmpty : Type 0
+LeavesEmpty = (m : Namespace) (ids : Ids) (op : Op) → AreIds ids → IsOp op → IsWithin ids m → HasNothingIn (after_records m (outcome m ids op).records) (next_id ids)
 
 -- A refusal makes no record and leaves the numbers, an operation makes at most two records, and the numbers after it may be given again.
 pub record IsBounded (ids : Ids) (o : Outcome) : Type 0 where

@@ -16,9 +16,9 @@ use Rattle.dfs_record.proofs.Replays.{after-append, delta-records_of}
 use Rattle.dfs_path.specs.declared.Op.{Op}
 use Rattle.dfs_path.specs.Op.{IsOp}
 use Rattle.dfs_ops.specs.declared.Ids.{Ids}
-use Rattle.dfs_ops.specs.Op.{AreIds, Outcome, ids_after}
-use Rattle.dfs_ops.specs.Within.{IsIdWithin, IsRecordWithin, IsValueWithin, IsWithin}
-use Rattle.dfs_ops.proofs.Bounds.{empty_within, leaves_within, makes_within, stays_within}
+use Rattle.dfs_ops.specs.Op.{AreIds, Outcome, ids_after, next_id}
+use Rattle.dfs_ops.specs.Within.{HasNothingIn, IsIdWithin, IsRecordWithin, IsValueWithin, IsWithin}
+use Rattle.dfs_ops.proofs.Bounds.{empty_within, leaves_empty, leaves_within, makes_within, stays_within}
 use Rattle.dfs_change.specs.declared.change.Change.{Change}
 use Rattle.dfs_change.specs.Identities.{AreFit, FitsJob}
 use Rattle.dfs_table.specs.Identities.{is_value_within}
@@ -47,16 +47,23 @@ within_fits ids r within = record {
   within = and_from (nat_le r.key.parent.job ids.job) (is_value_within ids.job r.value) (le-leb r.key.parent.job ids.job within.parent.job) (value_fits ids r.value within.value);
 }
 
+-- what the job sees then is what it saw, with the operation's records
+seen_after : (j : Job) (op : Op) → namespace_of (after j (does j op)) ≡ after_records (namespace_of j) (does j op).records
+seen_after j op = ap (replay j.basis) (joined-add j.settings.buffer j.layers (does j op).records) ∙ replay-more j.basis (joined j.layers) (does j op).records
+
 pub fair_after : (j : Job) (op : Op) → AreIds j.ids → IsOp op → IsFair j → IsFair (after j (does j op))
 fair_after j op ids is_op fair =
     let o : Outcome = does j op in
     let made = makes_within (namespace_of j) j.ids op ids is_op fair.seen in
     let fit : AllByRecursion (FitsJob j.ids.job) o.records = all_weaker (IsRecordWithin (ids_after j.ids o)) (FitsJob j.ids.job) o.records (within_fits (ids_after j.ids o)) (by_recursion (IsRecordWithin (ids_after j.ids o)) o.records made) in
-    let all = joined-add j.settings.buffer j.layers o.records in
     record {
-      seen = subst (IsWithin (ids_after j.ids o)) (sym (ap (replay j.basis) all ∙ replay-more j.basis (joined j.layers) o.records)) (leaves_within (namespace_of j) j.ids op ids is_op fair.seen);
-      own = subst (AllByRecursion (FitsJob j.ids.job)) (sym all) (all_append (FitsJob j.ids.job) (joined j.layers) o.records fair.own fit);
+      seen = subst (IsWithin (ids_after j.ids o)) (sym (seen_after j op)) (leaves_within (namespace_of j) j.ids op ids is_op fair.seen);
+      own = subst (AllByRecursion (FitsJob j.ids.job)) (sym (joined-add j.settings.buffer j.layers o.records)) (all_append (FitsJob j.ids.job) (joined j.layers) o.records fair.own fit);
     }
+
+-- nothing stands in a directory that was made
+pub fresh_after : (j : Job) (op : Op) → AreIds j.ids → IsOp op → IsFair j → HasNothingIn (namespace_of (after j (does j op))) (next_id j.ids)
+fresh_after j op ids is_op fair = subst (λ (m : Namespace). HasNothingIn m (next_id j.ids)) (sym (seen_after j op)) (leaves_empty (namespace_of j) j.ids op ids is_op fair.seen)
 
 pub fair_flushed : (j : Job) → IsFair j → IsFair (after_flush j)
 fair_flushed j fair = record {

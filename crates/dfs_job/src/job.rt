@@ -35,9 +35,11 @@ impl Job {
     ghost use Rattle.dfs_host.specs.Fault.{HasFaultCause};
     ghost use Rattle.dfs_host.specs.Host.{HostState, Told, Only, HasDiskCause};
     ghost use Rattle.dfs_ops.specs.Applied.{IsReply};
+    ghost use Rattle.dfs_ops.specs.Op.{next_id};
+    ghost use Rattle.dfs_ops.specs.Within.{HasNothingIn};
     ghost use Rattle.dfs_path.specs.Op.{IsOp};
     ghost use Rattle.dfs_record.specs.Delta.{Delta};
-    ghost use Rattle.dfs_job.specs.Job.{Job as PlainJob, after, after_flush, begun, does, first_ids, key_count, need, run_count};
+    ghost use Rattle.dfs_job.specs.Job.{Job as PlainJob, after, after_flush, begun, does, first_ids, key_count, namespace_of, need, run_count};
     ghost use Rattle.dfs_job.specs.Stands.{AreSettings, IsEarlier, IsSelectable, IsStoredFor, JobIsFit, JobIsSound, JobStands};
 
     /// A new job over the change sets that it selects, in the order of selection, with an empty log.
@@ -90,6 +92,8 @@ impl Job {
         // On every host on which the job stands, and for every plain job for which it stands there.
         ensures answer { (j : PlainJob) → Told (H.state host.old) (JobStands (H.state host.old) self.old j → IfOk result (λ answer. answer ≡ (does j op.now).answer)) }
         ensures stands { (j : PlainJob) → Told (H.state host.old) (JobStands (H.state host.old) self.old j → OnOk result (JobStands (H.state host.new) self.new (after j (does j op.now)))) }
+        // A directory that a mkdir made is empty: nothing stands in the one that this operation made, or would have made.
+        ensures fresh { (j : PlainJob) → Told (H.state host.old) (JobStands (H.state host.old) self.old j → OnOk result (HasNothingIn (namespace_of (after j (does j op.now))) (next_id j.ids))) }
         ensures valid { IfOk result IsReply }
         ensures number { OnOk result (self.new.ids.job ≡ self.old.ids.job) }
         ensures settings { self.new.settings ≡ self.old.settings }

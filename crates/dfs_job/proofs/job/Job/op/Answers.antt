@@ -1,7 +1,8 @@
-use Rattle.std.proofs.Common.{◌∙◌, ap, false, length, refl, sym}
-use Rattle.dfs_ops.specs.Op.{Outcome}
+use Rattle.std.proofs.Common.{◌∙◌, ap, false, length, refl, sym, subst}
+use Rattle.dfs_ops.specs.Op.{AreIds, Outcome}
 use Rattle.dfs_view.specs.Lists.{add_all}
 use Rattle.dfs_job.specs.Job.{after, does}
+use Rattle.dfs_job.proofs.Fair.{fresh_after}
 use Rattle.dfs_job.proofs.Keeping.{fit_after, op_stands, same_outcome}
 use Rattle.dfs_job.proofs.job.Job.op.Goals as goal
 
@@ -13,6 +14,9 @@ returns-clause-stands g c = λ j tells stands.
     let of = c.in_ok-answer.ensures in
     op_stands (g.H.Host.state c.args.host.now) (g.H.Host.state c.apply_to.new.host) c.args.self.now (record { ids = c.apply_to.new.ids; layers = c.apply_to.new.layers; settings = c.args.self.now.settings; spent = false }) c.args.op.now of.applied.records tells
     c.requires.sound.fit c.requires.op of.applied.went_on (of.applied.whole tells) (of.ids tells) (of.stand tells) refl j stands
+
+pub returns-clause-fresh : goal.returns-clause-fresh
+returns-clause-fresh g c = λ j tells stands. fresh_after j c.args.op.now (subst AreIds (sym stands.ids) c.requires.sound.fit.ids) c.requires.op stands.fair
 
 pub returns-clause-sound : goal.returns-clause-sound
 returns-clause-sound g c =

@@ -1,21 +1,23 @@
 -- What a reader of records makes of those that it has read and of the bytes that are left.
 use Rattle.std.proofs.Common.{◌≡◌, ℕ, ◌+◌, ◌<◌, ◌≤◌, true, false, List, [], ◌∷◌, ◌++◌, length, drop, refl, sym, ap, subst, ◌∙◌, append_assoc, arith, length-append}
-use Rattle.std.specs.Prelude.{Option, Some, None, ◌↔◌, option_map, IfSome}
+use Rattle.std.specs.Prelude.{Option, Some, None}
 use Rattle.std.specs.List.{AllByRecursion, flat_map}
 use Rattle.std.proofs.lemmas.List.{append-nil}
 use Rattle.dfs_record.specs.declared.Key.{Key}
-use Rattle.dfs_record.specs.declared.KeyRef.{KeyRef}
 use Rattle.dfs_record.specs.declared.Record.{Record}
-use Rattle.dfs_record.specs.Lend.{key_of}
+use Rattle.dfs_record.specs.declared.Value.{Value}
+use Rattle.dfs_record.specs.Delta.{or_else}
 use Rattle.dfs_record.specs.Reading.{record_at}
 use Rattle.dfs_record.specs.Record.{IsRecord, spelling, SpelledFirst, NothingSpelled}
 use Rattle.dfs_record.specs.Records.{KeysRise}
 use Rattle.dfs_record.proofs.Readings.{IsBytes}
 use Rattle.dfs_record.proofs.Firsts.{spelled_first}
 use Rattle.dfs_block.specs.Block.{last_key}
-use Rattle.dfs_block.specs.Read.{AreRecords, AreNoRecords, EndAt, is_above}
+use Rattle.dfs_block.specs.Read.{AreRecords, AreNoRecords, EndAt, is_above, value_for}
+use Rattle.dfs_block.specs.Front.{records_front}
+use Rattle.dfs_block.proofs.Blocks.{front_all}
 use Rattle.dfs_block.proofs.Spelled.{all_more, spelled_more, parts, first_is, same_record, behind_front, fits_behind}
-use Rattle.dfs_block.proofs.Rising.{rise_more, last_more, above_last, some_last}
+use Rattle.dfs_block.proofs.Rising.{rise_more, last_more, above_last, some_last, sought_more}
 
 -- so many records of the bytes are read, the last of which has this key, and the rest is left
 pub record HasRead (bytes rest : List ℕ) (turn : ℕ) (last : Option Key) : Type 0 where
@@ -27,11 +29,20 @@ pub record HasRead (bytes rest : List ℕ) (turn : ℕ) (last : Option Key) : Ty
   pub last_is : last ≡ last_key front
   pub fits : IsBytes rest
 
-pub none_read : (bytes : List ℕ) → IsBytes bytes → HasRead bytes bytes 0 None
-none_read bytes fits = record { front = []; valid = tt; rise = tt; number = refl; text = refl; last_is = refl; fits = fits }
+-- They are read, and the value is what they have for the key that is sought.
+pub record HasSought (bytes rest : List ℕ) (turn : ℕ) (last key : Option Key) (value : Option Value) : Type 0 where
+  pub read : HasRead bytes rest turn last
+  pub value_is : value ≡ value_for key read.front
 
-pub moved : {bytes rest behind : List ℕ} {turn : ℕ} {last now : Option Key} → behind ≡ rest → now ≡ last → HasRead bytes rest turn last → HasRead bytes behind turn now
-moved {bytes} {rest} {behind} {turn} {last} {now} e f h = subst (λ l. HasRead bytes l turn now) (sym e) (subst (HasRead bytes rest turn) (sym f) h)
+none_sought : (key : Option Key) → None ≡ value_for key []
+none_sought None = refl
+none_sought (Some q) = refl
+
+pub none_read : (bytes : List ℕ) (key : Option Key) → IsBytes bytes → HasSought bytes bytes 0 None key None
+none_read bytes key fits = record {
+  read = record { front = []; valid = tt; rise = tt; number = refl; text = refl; last_is = refl; fits = fits };
+  value_is = none_sought key;
+}
 
 no_bytes : (l : List ℕ) → length l ≡ 0 → l ≡ []
 no_bytes [] e = refl
@@ -41,20 +52,27 @@ module _ {bytes rest : List ℕ} {turn : ℕ} {last : Option Key} where
   above : (h : HasRead bytes rest turn last) (r : Record) → is_above last r.key ≡ is_above (last_key h.front) r.key
   above h r = ap (λ o. is_above o r.key) h.last_is
 
-  pub read_on : HasRead bytes rest turn last → (r : Record) (len : ℕ) → SpelledFirst rest r len → is_above last r.key ≡ true → HasRead bytes (drop len rest) (turn + 1) (Some r.key)
-  read_on h r len first next = record {
-    front = h.front ++ r ∷ [];
-    valid = all_more h.front r h.valid first.1.0;
-    rise = rise_more h.front r h.rise (sym (above h r) ∙ next);
-    number = omega (arith, length-append h.front (r ∷ []), h.number);
-    text =
-        ap (λ (l : List ℕ). l ++ drop len rest) (spelled_more h.front r)
-        ∙ append_assoc (flat_map spelling h.front) (spelling r) (drop len rest)
-        ∙ ap (λ (l : List ℕ). flat_map spelling h.front ++ l) (sym (parts rest r len first))
-        ∙ h.text;
-    last_is = sym (last_more h.front r);
-    fits = fits_behind len rest h.fits;
-  }
+  pub read_on : {behind : List ℕ} {now key : Option Key} {value new : Option Value} (h : HasSought bytes rest turn last key value) (r : Record) (len : ℕ) → SpelledFirst rest r len → is_above last r.key ≡ true
+      → behind ≡ drop len rest → now ≡ Some r.key → new ≡ or_else value (value_for key (r ∷ [])) → HasSought bytes behind (turn + 1) now key new
+  read_on {behind} {now} {key} {value} {new} h r len first next left last_is new_is =
+      let front = h.read.front in
+      let rise : KeysRise (front ++ r ∷ []) = rise_more front r h.read.rise (sym (above h.read r) ∙ next) in
+      record {
+        read = record {
+          front = front ++ r ∷ [];
+          valid = all_more front r h.read.valid first.1.0;
+          rise = rise;
+          number = omega (arith, length-append front (r ∷ []), h.read.number);
+          text =
+              ap (λ (l : List ℕ). l ++ behind) (spelled_more front r)
+              ∙ append_assoc (flat_map spelling front) (spelling r) behind
+              ∙ ap (λ (l : List ℕ). flat_map spelling front ++ l) (ap (λ (l : List ℕ). spelling r ++ l) left ∙ sym (parts rest r len first))
+              ∙ h.read.text;
+          last_is = last_is ∙ sym (last_more front r);
+          fits = subst IsBytes (sym left) (fits_behind len rest h.read.fits);
+        };
+        value_is = new_is ∙ ap (λ o. or_else o (value_for key (r ∷ []))) h.value_is ∙ sym (sought_more key front r rise);
+      }
 
   -- where so many records are spelled, those behind the front are spelled in the rest
   pub record Stand (h : HasRead bytes rest turn last) (count : ℕ) : Type 0 where
@@ -118,11 +136,11 @@ module _ {bytes rest : List ℕ} {turn : ℕ} {last : Option Key} where
     valid = h.valid;
   }
 
--- what the last key says, lent
-pub ended : {bytes rest : List ℕ} {turn : ℕ} (count : ℕ) (o : Option KeyRef) → HasRead bytes rest turn (option_map key_of o) → turn ≡ count → length rest ≡ 0 → IfSome o (λ k. EndAt count bytes (key_of k))
-ended count None h end none = tt
-ended count (Some k) h end none = record { records = h.front; are = all_read h count end none; last_is = sym h.last_is }
+  pub ended : HasRead bytes rest turn last → (count : ℕ) → turn ≡ count → length rest ≡ 0 → (key : Key) → last ≡ Some key → EndAt count bytes key
+  ended h count end none key is = record { records = h.front; are = all_read h count end none; last_is = sym h.last_is ∙ is }
 
-pub not_ended : {bytes rest : List ℕ} {turn : ℕ} (count : ℕ) (o : Option KeyRef) → HasRead bytes rest turn (option_map key_of o) → turn ≡ count → length rest ≡ 0 → 1 ≤ count → (o ≡ None) ↔ AreNoRecords count bytes
-not_ended count None h end none some = ((λ _. absurd (some_last h.front (omega (arith, h.number, end, some)) (sym h.last_is))), (λ _. refl))
-not_ended count (Some k) h end none some = ((λ e. absurd cc), (λ no. absurd (no h.front (all_read h count end none))))
+  pub not_none : HasRead bytes rest turn last → 1 ≤ turn → last ≡ None → ⊥
+  not_none h some is = some_last h.front (omega (arith, h.number, some)) (sym h.last_is ∙ is)
+
+  pub sought : {key : Option Key} {value : Option Value} (h : HasSought bytes rest turn last key value) (count : ℕ) → turn ≡ count → length rest ≡ 0 → value ≡ value_for key (records_front count bytes)
+  sought {key} {value} h count end none = h.value_is ∙ ap (value_for key) (sym (front_all count bytes h.read.front (all_read h.read count end none)))

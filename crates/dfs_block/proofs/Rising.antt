@@ -12,12 +12,12 @@ use Rattle.dfs_record.specs.declared.Record.{Record}
 use Rattle.dfs_record.specs.declared.ValueRef.{ValueRef}
 use Rattle.dfs_record.specs.Lend.{value_of}
 use Rattle.dfs_record.specs.Delta.{last_value, or_else}
-use Rattle.dfs_record.specs.Record.{IsKey, IsRecord}
+use Rattle.dfs_record.specs.Record.{IsKey, IsRecord, IsValue}
 use Rattle.dfs_record.specs.Key.{key_cmp, keys_total, keys_exact}
 use Rattle.dfs_record.specs.Records.{KeysRise, IsBelow}
 use Rattle.dfs_record.proofs.Maps.{alike_keys, other_key, same_key}
 use Rattle.dfs_block.specs.Block.{last_key, Has, HasNot, IsAboveLast, RisesByLast}
-use Rattle.dfs_block.specs.Read.{is_above}
+use Rattle.dfs_block.specs.Read.{is_above, value_for}
 
 abbrev entries : List Record → List (Key × Value)
 entries rs = map (λ r. (r.key, r.value)) rs
@@ -121,6 +121,10 @@ rises_by_last rs r = (
   (λ h. rise_above rs r h.0 h.1),
 )
 
+below_behind : (q : Key) (rs : List Record) (r : Record) → T (below_all key_cmp q (entries (rs ++ r ∷ []))) → T (below_all key_cmp q (entries (r ∷ [])))
+below_behind q [] r below = below
+below_behind q (x ∷ rs) r below = below_behind q rs r (second (is_lt (key_cmp q x.key)) (below_all key_cmp q (entries (rs ++ r ∷ []))) below)
+
 -- ---- the value of a key
 
 value_none : (q : Key) (rs : List Record) → T (below_all key_cmp q (entries rs)) → last_value q rs ≡ None
@@ -143,6 +147,27 @@ nothing_else (Some v) = refl
 
 pub value_greater : (q : Key) (r : Record) (rs : List Record) → key_cmp q r.key ≡ Greater → last_value q (r ∷ rs) ≡ last_value q rs
 value_greater q r rs gt = ap (λ (o : Ordering). or_else (last_value q rs) (cond (is_eq o) (Some r.value) None)) gt ∙ nothing_else (last_value q rs)
+
+-- with one more behind the last, the first value that is there
+value_more : (q : Key) (rs : List Record) (r : Record) → KeysRise (rs ++ r ∷ []) → last_value q (rs ++ r ∷ []) ≡ or_else (last_value q rs) (last_value q (r ∷ []))
+value_more q [] r rise = refl
+value_more q (x ∷ rs) r rise = by_case (value_more q rs r (rise_behind x (rs ++ r ∷ []) rise)) (key_cmp q x.key) refl
+  where
+    by_case : last_value q (rs ++ r ∷ []) ≡ or_else (last_value q rs) (last_value q (r ∷ [])) → (o : Ordering) → key_cmp q x.key ≡ o
+        → last_value q (x ∷ rs ++ r ∷ []) ≡ or_else (last_value q (x ∷ rs)) (last_value q (r ∷ []))
+    by_case more Less lt =
+        let below = below_all_of q x (rs ++ r ∷ []) lt rise in
+        value_none q (x ∷ rs ++ r ∷ []) below
+        ∙ sym (ap (λ o. or_else o (last_value q (r ∷ []))) (value_less q x rs (front_rises (x ∷ rs) r rise) lt) ∙ value_none q (r ∷ []) (below_behind q (x ∷ rs) r below))
+    by_case more Equal eq = value_equal q x (rs ++ r ∷ []) rise eq ∙ sym (ap (λ o. or_else o (last_value q (r ∷ []))) (value_equal q x rs (front_rises (x ∷ rs) r rise) eq))
+    by_case more Greater gt =
+        value_greater q x (rs ++ r ∷ []) gt
+        ∙ more
+        ∙ sym (ap (λ o. or_else o (last_value q (r ∷ []))) (value_greater q x rs gt))
+
+pub sought_more : (key : Option Key) (rs : List Record) (r : Record) → KeysRise (rs ++ r ∷ []) → value_for key (rs ++ r ∷ []) ≡ or_else (value_for key rs) (value_for key (r ∷ []))
+sought_more None rs r rise = refl
+sought_more (Some q) rs r rise = value_more q rs r rise
 
 -- ---- that a key stands there
 
@@ -175,6 +200,20 @@ has_none_value q [] h = refl
 has_none_value q (r ∷ rs) h =
     ap (λ o. or_else o (cond (eq_by_cmp key_cmp q r.key) (Some r.value) None)) (has_none_value q rs h.1)
     ∙ ap (λ b. cond b (Some r.value) None) (other_key q r.key (λ same. h.0 (sym same)))
+
+value_valid : (q : Key) (rs : List Record) (v : Value) → AllByRecursion IsRecord rs → last_value q rs ≡ Some v → IsValue v
+value_valid q [] v all e = absurd cc
+value_valid q (r ∷ rs) v all e = by_case (λ f. value_valid q rs v all.1 f) (last_value q rs) refl (eq_by_cmp key_cmp q r.key) e
+  where
+    by_case : (last_value q rs ≡ Some v → IsValue v) → (o : Option Value) → last_value q rs ≡ o → (b : Bool) → or_else o (cond b (Some r.value) None) ≡ Some v → IsValue v
+    by_case behind (Some w) f b g = behind (f ∙ g)
+    by_case behind None f true g = let same : r.value ≡ v = cc in subst IsValue same all.0.value
+    by_case behind None f false g = absurd cc
+
+pub sought_valid : (key : Option Key) (rs : List Record) (o : Option ValueRef) → AllByRecursion IsRecord rs → option_map value_of o ≡ value_for key rs → IfSome o (λ v. IsValue (value_of v))
+sought_valid key rs None all e = tt
+sought_valid None rs (Some v) all e = absurd cc
+sought_valid (Some q) rs (Some v) all e = value_valid q rs (value_of v) all (sym e)
 
 -- what is lent of a value is there
 pub lent_has : (q : Key) (rs : List Record) (o : Option ValueRef) → option_map value_of o ≡ last_value q rs → IfSome o (λ v. Has q (value_of v) rs)

@@ -4,6 +4,8 @@ use Rattle.std.specs.List.{AllByRecursion, flat_map}
 use Rattle.std.specs.Ordering.{is_lt}
 use Rattle.dfs_record.specs.declared.Key.{Key}
 use Rattle.dfs_record.specs.declared.Record.{Record}
+use Rattle.dfs_record.specs.declared.Value.{Value}
+use Rattle.dfs_record.specs.Delta.{last_value}
 use Rattle.dfs_record.specs.Key.{key_cmp}
 use Rattle.dfs_record.specs.Record.{IsRecord, spelling}
 use Rattle.dfs_record.specs.Records.{KeysRise}
@@ -35,3 +37,8 @@ pub record IsHeld (count : ℕ) (bytes : List ℕ) (last : Key) (rs : List Recor
 abbrev pub is_above : Option Key → Key → Bool
 is_above None key = true
 is_above (Some last) key = is_lt (key_cmp last key)
+
+-- the value that the records have for a key, where one is sought
+abbrev pub value_for : Option Key → List Record → Option Value
+value_for None rs = None
+value_for (Some key) rs = last_value key rs

@@ -1,15 +1,16 @@
 //! Blocks that are read.
 
-ghost use Rattle.std.specs.Prelude.{◌≡◌, ◌↔◌, ◌≤◌, IfSome, IsSomeAnd, List, Some, None, length, option_map};
+ghost use Rattle.std.specs.Prelude.{◌≡◌, ◌↔◌, ◌≤◌, ◌∷◌, [], IfSome, IsSomeAnd, List, Some, None, length, option_map};
 ghost use Rattle.dfs_record.specs.declared.Record.{Record};
-ghost use Rattle.dfs_record.specs.Delta.{last_value};
-ghost use Rattle.dfs_record.specs.Lend.{key_of, value_of};
+ghost use Rattle.dfs_record.specs.Delta.{last_value, or_else};
+ghost use Rattle.dfs_record.specs.Lend.{key_of, record_of, value_of};
 ghost use Rattle.dfs_record.specs.Record.{IsKey, IsValue};
 ghost use Rattle.dfs_block.specs.Block.{Has, HasNot, IsBlock, IsNoBlock, first_key, last_key};
-ghost use Rattle.dfs_block.specs.Read.{AreNoRecords, EndAt, is_above as is_above_key};
+ghost use Rattle.dfs_block.specs.Front.{records_front};
+ghost use Rattle.dfs_block.specs.Read.{AreNoRecords, EndAt, is_above as is_above_key, value_for};
 
 use crate::BlockRecords;
-use dfs_record::{KeyRef, Records, ValueRef, decode, read_u16};
+use dfs_record::{KeyRef, RecordRef, Records, ValueRef, decode, read_u16};
 use std::cmp::Ordering;
 use std::marker::Model;
 
@@ -46,6 +47,34 @@ impl<'a> Block<'a> {
         ensures only { (rs : List Record) → IsBlock bytes.entry.now rs → IsSomeAnd result (λ block. block ≡ rs) }
         ensures none { (result ≡ None) ↔ IsNoBlock bytes.entry.now }
     {
+        let (block, _) = Block::read_for(bytes, None)?;
+        Some(block)
+    }
+
+    /// The block that the bytes are, and the value of its record with the key, if it has one. `None` exactly where they are no
+    /// block. Each record is decoded once.
+    pub fn find_in(bytes: &'a [u8], key: KeyRef<'_>) -> Option<(Block<'a>, Option<ValueRef<'a>>)>
+        ensures found { IfSome result (λ p. IsBlock bytes.entry.now p.0) }
+        // They are the block of no other list.
+        ensures only { (rs : List Record) → IsBlock bytes.entry.now rs → IsSomeAnd result (λ p. p.0 ≡ rs) }
+        ensures none { (result ≡ None) ↔ IsNoBlock bytes.entry.now }
+        ensures value { IfSome result (λ p. option_map value_of p.1 ≡ last_value (key_of key.entry) p.0) }
+        ensures valid { IfSome result (λ p. IfSome p.1 (λ value. IsValue (value_of value))) }
+    {
+        Block::read_for(bytes, Some(key))
+    }
+
+    // The same, where a key may be sought.
+    fn read_for(
+        bytes: &'a [u8],
+        key: Option<KeyRef<'_>>,
+    ) -> Option<(Block<'a>, Option<ValueRef<'a>>)>
+        ensures found { IfSome result (λ p. IsBlock bytes.entry.now p.0) }
+        ensures only { (rs : List Record) → IsBlock bytes.entry.now rs → IsSomeAnd result (λ p. p.0 ≡ rs) }
+        ensures none { (result ≡ None) ↔ IsNoBlock bytes.entry.now }
+        ensures value { IfSome result (λ p. option_map value_of p.1 ≡ value_for (option_map key_of key.entry) p.0) }
+        ensures valid { IfSome result (λ p. IfSome p.1 (λ value. IsValue (value_of value))) }
+    {
         if bytes.len() > MOST_BYTES {
             return None;
         }
@@ -54,12 +83,13 @@ impl<'a> Block<'a> {
             return None;
         }
         let (_, records) = bytes.split_at(2);
-        let last = last_of(count, records)?;
-        Some(Block {
+        let passed = pass_over(count, records, key)?;
+        let block = Block {
             count,
             records,
-            last,
-        })
+            last: passed.0,
+        };
+        Some((block, passed.1))
     }
 
     /// The value of the record with the key. `None` exactly where no record has it.
@@ -122,24 +152,55 @@ impl<'a> Block<'a> {
     }
 }
 
-// The last key of so many records, where the bytes are these, their keys rise, and nothing else stands there.
-fn last_of(count: u16, bytes: &[u8]) -> Option<KeyRef<'_>>
+// The last key of so many records, where the bytes are these, their keys rise, and nothing else stands there. With it comes the
+// value of the record with the key that is sought.
+fn pass_over<'a>(
+    count: u16,
+    bytes: &'a [u8],
+    key: Option<KeyRef<'_>>,
+) -> Option<(KeyRef<'a>, Option<ValueRef<'a>>)>
     requires { 1 ≤ count }
-    ensures found { IfSome result (λ last. EndAt count bytes.now (key_of last)) }
+    ensures found { IfSome result (λ p. EndAt count bytes.now (key_of p.0)) }
     ensures none { (result ≡ None) ↔ AreNoRecords count bytes.now }
+    ensures value { IfSome result (λ p. option_map value_of p.1 ≡ value_for (option_map key_of key.entry) (records_front count bytes.now)) }
 {
     let mut rest = bytes;
     let mut last = None;
+    let mut value = None;
     for _turn in 0..count {
         let (rec, len) = decode(rest)?;
         if !is_above(last, rec.key) {
             return None;
         }
+        value = value_with(value, key, rec);
         last = Some(rec.key);
         let (_, behind) = rest.split_at(len);
         rest = behind;
     }
-    if rest.is_empty() { last } else { None }
+    if !rest.is_empty() {
+        return None;
+    }
+    match last {
+        Some(last) => Some((last, value)),
+        None => None,
+    }
+}
+
+// The value that was found, or else that of the record, if it has the key that is sought.
+fn value_with<'a>(
+    found: Option<ValueRef<'a>>,
+    key: Option<KeyRef<'_>>,
+    rec: RecordRef<'a>,
+) -> Option<ValueRef<'a>>
+    ensures { option_map value_of result ≡ or_else (option_map value_of found.entry) (value_for (option_map key_of key.entry) (record_of rec.entry ∷ [])) }
+{
+    if found.is_some() {
+        return found;
+    }
+    match key {
+        Some(key) if key.order(rec.key).is_eq() => Some(rec.value),
+        _ => None,
+    }
 }
 
 // Whether the key is above the last one.

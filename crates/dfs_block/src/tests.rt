@@ -122,21 +122,33 @@ fn full(rt: HostRuntime) -> Result<(), Fail> {
 
 #[test]
 fn directory(rt: HostRuntime) -> Result<(), Fail> {
-    let block = Block::read(&ONE).ok_or("a block")?;
-    let found = block.find(name(b"x")).ok_or("the directory")?;
+    let (block, sought) = Block::find_in(&ONE, name(b"x")).ok_or("a block")?;
     let id = DirId { job: 1, counter: 1 };
-    let written = matches!(found, ValueRef::Dir { id: found, mode: 0o755, time: 1 } if found == id);
-    assert!(rt; written);
+    for found in [block.find(name(b"x")), sought] {
+        let found = found.ok_or("the directory")?;
+        let written =
+            matches!(found, ValueRef::Dir { id: found, mode: 0o755, time: 1 } if found == id);
+        assert!(rt; written);
+    }
     Ok(())
 }
 
 #[test]
 fn found(rt: HostRuntime) -> Result<(), Fail> {
     let block = Block::read(&TWO).ok_or("a block")?;
-    assert!(rt; block.find(name(b"a")).is_some());
-    assert!(rt; block.find(name(b"b")).is_some());
-    for other in [b"A".as_slice(), b"aa", b"c"] {
-        assert!(rt; block.find(name(other)).is_none());
+    // A name, and whether a record has it.
+    let names = [
+        (b"A".as_slice(), false),
+        (b"a", true),
+        (b"aa", false),
+        (b"b", true),
+        (b"c", false),
+    ];
+    for (other, has) in names {
+        let (again, sought) = Block::find_in(&TWO, name(other)).ok_or("a block")?;
+        assert_eq!(rt; again.count(), 2);
+        assert_eq!(rt; sought.is_some(), has);
+        assert_eq!(rt; block.find(name(other)).is_some(), has);
     }
     assert_eq!(rt; block.first_key().name, b"a".as_slice());
     assert_eq!(rt; block.last_key().name, b"b".as_slice());
@@ -174,6 +186,10 @@ fn damaged(rt: HostRuntime) {
             *at = byte;
         }
         assert!(rt; Block::read(&bytes).is_none(), "{what}");
+        assert!(rt;
+            Block::find_in(&bytes, name(b"a")).is_none(),
+            "{what}, though a key is sought"
+        );
     }
     assert!(rt; Block::read(&TWO[..23]).is_none(), "one byte short");
     assert!(rt; Block::read(&[0]).is_none(), "no count");

@@ -48,8 +48,8 @@ impl Table {
         ensures valid { IfSome result (λ value. IsValue (value_of value)) }
     {
         let index = self.fences.find(key)?;
-        let block = self.block(index)?;
-        block.find(key)
+        let (_, value) = Block::find_in(self.block_bytes(index)?, key)?;
+        value
     }
 
     /// The block with this number, from the bytes that the table holds, and `None` where they are none.

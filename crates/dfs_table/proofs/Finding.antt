@@ -12,7 +12,7 @@ use Rattle.dfs_record.specs.declared.Value.{Value}
 use Rattle.dfs_record.specs.Delta.{last_value, or_else}
 use Rattle.dfs_record.specs.Key.{key_cmp, keys_total}
 use Rattle.dfs_record.specs.Records.{KeysRise, IsBelow}
-use Rattle.dfs_block.specs.Block.{first_key, last_key}
+use Rattle.dfs_block.specs.Block.{IsBlock, first_key, last_key}
 use Rattle.dfs_block.proofs.Rising.{above_last, rise_behind, value_less, value_greater}
 use Rattle.dfs_fence.specs.declared.fence.Fence.{Fence}
 use Rattle.dfs_fence.specs.Cover.{Covers, CoversAt, NoneCovers}
@@ -70,6 +70,10 @@ each_at P (y ∷ xs) (suc i) x each at = each_at P xs i x each.1 at
 pub length-starts : (place : ℕ) (fs : List Fence) → length (starts_from place fs) ≡ length fs
 length-starts place [] = refl
 length-starts place (f ∷ fs) = ap suc (length-starts (place + f.len) fs)
+
+-- bytes that are those of one of the blocks
+pub block_there : (file : List ℕ) (fs : List Fence) (i : ℕ) (f : Fence) (bytes : List ℕ) → AllByRecursion (IsBlockOf file) fs → slice_get fs i ≡ Some f → bytes ≡ block_at file f → IsBlock bytes (records_at file f)
+block_there file fs i f bytes each at same = subst (λ (l : List ℕ). IsBlock l (records_at file f)) (sym same) (each_at (IsBlockOf file) fs i f each at).block
 
 module _ (t : Table) (i start : ℕ) (there : start ≡ get_or t.starts.items i start) (file : List ℕ) (f : Fence) (is : IsTableOf file t) (at : slice_get t.fences i ≡ Some f) where
   inside : f.at + f.len ≤ length file

@@ -48,7 +48,8 @@ impl Table {
         ensures valid { IfSome result (λ value. IsValue (value_of value)) }
     {
         let index = self.fences.find(key)?;
-        let (_, value) = Block::find_in(self.block_bytes(index)?, key)?;
+        let bytes = self.block_bytes(index)?;
+        let (_, value) = Block::find_in(bytes, key)?;
         value
     }
 

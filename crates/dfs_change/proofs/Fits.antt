@@ -28,10 +28,6 @@ put_all P k v (e ∷ es) p all = by_case (key_cmp k e.0) refl (put_all P k v es 
 pub fit_with : (job : ℕ) (d : Delta) (r : Record) → AreFit job d → FitsJob job r → AreFit job (with_record d r)
 fit_with job d r all fit = put_all (FitsJob job) r.key r.value d.entries fit all
 
-pub all_valid : (job : ℕ) (rs : List Record) → AllByRecursion (FitsJob job) rs → AllByRecursion IsRecord rs
-all_valid job [] fit = tt
-all_valid job (r ∷ rs) fit = (fit.0.valid, all_valid job rs fit.1)
-
 pub all_within : (job : ℕ) (rs : List Record) → AllByRecursion (FitsJob job) rs → AllByRecursion (IsWithin job) rs
 all_within job [] fit = tt
 all_within job (r ∷ rs) fit = (fit.0.within, all_within job rs fit.1)

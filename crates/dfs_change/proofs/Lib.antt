@@ -6,5 +6,3 @@ pub mod Checks
 pub mod Meant
 mod Rows
 pub mod Opened
-pub mod Writings
-pub mod Gathered

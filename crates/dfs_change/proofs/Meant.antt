@@ -61,10 +61,6 @@ only_all_fences file l (t ∷ ts) (fs ∷ fss) are =
     let rest = only_all_fences file l ts fss are.1 in
     λ i. first i ∷ rest i
 
--- the tables of a whole log are those that are read from its bytes
-pub only_fences_listed : (file : List ℕ) (l : Listed) (ts : List Extent) (fss : List (List Fence)) → IsWhole file l ts fss → fences_listed file l ≡ fss
-only_fences_listed file l ts fss is = ap (fences_at file) (only_tables (part file l.at l.len) ts is.manifest) ∙ only_all_fences file l ts fss is.tables
-
 -- ---- whole or damaged
 
 meaning_is : (file : List ℕ) (l : Listed) (ts : List Extent) (fss : List (List Fence)) → IsWhole file l ts fss → log_meaning file l ≡ Some (delta (records_by file (joined fss)))

@@ -8,7 +8,7 @@ ghost use Rattle.dfs_record.specs.Lend.{key_of, value_of};
 ghost use Rattle.dfs_record.specs.Record.{IsValue};
 ghost use Rattle.dfs_host.specs.declared.fault.Fault.{Fault as AnyFault};
 ghost use Rattle.dfs_fence.specs.declared.fence.Fence.{Fence};
-ghost use Rattle.dfs_table.specs.Stored.{IsTableOf, block_at, blocks_by, records_at, table_records};
+ghost use Rattle.dfs_table.specs.Stored.{IsTableOf, block_at, blocks_by, table_records};
 
 use crate::Table;
 use dfs_block::Block;
@@ -51,14 +51,6 @@ impl Table {
         let bytes = self.block_bytes(index)?;
         let (_, value) = Block::find_in(bytes, key)?;
         value
-    }
-
-    /// The block with this number, from the bytes that the table holds, and `None` where they are none.
-    pub fn block(&self, index: usize) -> Option<Block<'_>>
-        requires { index < length self.now.fences }
-        ensures block { (file : List ℕ) (f : Fence) → IsTableOf file self.now → slice_get self.now.fences index ≡ Some f → IsSomeAnd result (λ block. block ≡ records_at file f) }
-    {
-        Block::read(self.block_bytes(index)?)
     }
 
     // The number of the first block that does not end below the low end, and the bytes of the blocks from it on.

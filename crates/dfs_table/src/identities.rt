@@ -8,8 +8,8 @@ ghost use Rattle.dfs_table.specs.Identities.{is_value_within as is_value_within_
 use dfs_block::Block;
 use dfs_record::{Head, RecordRef, Records, ValueRef};
 
-/// Whether the identities in each record of the block are of jobs up to this one.
-pub fn are_within(job: u32, block: &Block<'_>) -> bool
+// Whether the identities in each record of the block are of jobs up to this one.
+pub(crate) fn are_within(job: u32, block: &Block<'_>) -> bool
     ensures { result ≡ list_all (is_within_job job) block.now }
 {
     let mut records = block.records();
@@ -22,8 +22,8 @@ pub fn are_within(job: u32, block: &Block<'_>) -> bool
     true
 }
 
-/// Whether the identities in the record are of jobs up to this one.
-pub fn is_within(job: u32, rec: RecordRef<'_>) -> bool
+// Whether the identities in the record are of jobs up to this one.
+fn is_within(job: u32, rec: RecordRef<'_>) -> bool
     ensures { result ≡ is_within_job job (record_of rec.entry) }
 {
     rec.key.parent.job <= job && is_value_within(job, rec.value)

@@ -20,7 +20,6 @@ mod table;
 mod writer;
 mod writing;
 
-pub use identities::is_within;
 pub use open::OpenFault;
 pub use run::{Run, Tables};
 pub use run_records::RunRecords;

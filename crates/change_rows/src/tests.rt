@@ -170,12 +170,12 @@ const BREAKS: [Break; 22] = [
     (0, b'd', TWO_TABLES_ENTRY, "the header"),
     (11, 2, TWO_TABLES_ENTRY, "the header's job"),
     (0, b'D', (11, 167, 2), "a manifest in the header"),
-    (0, b'D', (150, 29, 2), "a manifest that ends behind the file"),
-    (0, b'D', (u64::MAX, 28, 2), "a manifest that ends past all numbers"),
+    (0, b'D', (150, 29, 2), "a manifest past the file"),
+    (0, b'D', (u64::MAX, 28, 2), "a manifest past 2^64"),
     (153, 1, TWO_TABLES_ENTRY, "the manifest's count"),
     (46, 0, TWO_TABLES_ENTRY, "an index of no fence"),
     (161, 44, TWO_TABLES_ENTRY, "the place of an index"),
-    (161, 160, TWO_TABLES_ENTRY, "an index that ends behind the manifest"),
+    (161, 160, TWO_TABLES_ENTRY, "an index past the manifest"),
     (54, 11, TWO_TABLES_ENTRY, "a block in the header"),
     (54, 13, TWO_TABLES_ENTRY, "the place of a block"),
     (58, 30, TWO_TABLES_ENTRY, "its length"),
@@ -268,14 +268,7 @@ fn published_and_found(rt: HostRuntime) -> Result<(), Fail> {
     let mut log = LogWriter::start(&mut host, 1, 4096)?;
     let rec = directory(alloc)?;
     let name = SnapName::new(alloc, b"s")?;
-    let found = publish_and_find(
-        alloc,
-        &mut host,
-        &mut log,
-        name,
-        rec.lend(),
-        rec.key.lend(),
-    );
+    let found = publish_and_find(alloc, &mut host, &mut log, name, rec.lend(), rec.key.lend());
     assert_eq!(rt; found, Ok(Some(directory(alloc)?.value)));
     Ok(())
 }

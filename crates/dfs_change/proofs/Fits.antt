@@ -10,7 +10,6 @@ use Rattle.dfs_record.specs.declared.Record.{Record}
 use Rattle.dfs_record.specs.declared.Value.{Value}
 use Rattle.dfs_record.specs.Delta.{Delta, with_record}
 use Rattle.dfs_record.specs.Key.{key_cmp, keys_exact}
-use Rattle.dfs_record.specs.Record.{IsRecord}
 use Rattle.dfs_table.specs.Identities.{IsWithin}
 use Rattle.dfs_change.specs.Identities.{FitsJob, AreFit}
 use Rattle.dfs_change.proofs.Maps.{record_at}

@@ -24,7 +24,7 @@ use Rattle.dfs_table.specs.Stored.{IsBlockOf, block_at, part, records_at, record
 use Rattle.dfs_table.proofs.Stays.{all_append, part_stays}
 use Rattle.dfs_change.specs.Whole.{AreTablesAt, HasChanges, IsWhole, end_of, joined}
 use Rattle.dfs_change.specs.Checks.{is_whole}
-use Rattle.dfs_change.specs.Meant.{DamagedLogsMeanNothing, HasOneChangeSet, NothingBehindMeans, WholeLogsMean, changes_with, counted, fences_at, fences_in, fences_listed, log_meaning, tables_at, tables_of}
+use Rattle.dfs_change.specs.Meant.{DamagedLogsMeanNothing, HasOneChangeSet, NothingBehindMeans, WholeLogsMean, changes_with, counted, fences_at, fences_in, log_meaning, tables_at, tables_of}
 use Rattle.dfs_change.proofs.Bools.{passed}
 use Rattle.dfs_change.proofs.Checks.{whole}
 

@@ -1,9 +1,8 @@
 -- How many records a cursor has before it, on every host: no more than the fences count.
-use Rattle.std.proofs.Common.{◌≡◌, ◌≤◌, ◌+◌, ◌∷◌, ◌++◌, [], ℕ, zero, suc, Bool, true, false, if◌then◌else◌, List, length, take, drop, map, arith, refl, ap, sym, length-append}
+use Rattle.std.proofs.Common.{◌≡◌, ◌≤◌, ◌+◌, ◌∷◌, ◌++◌, [], ℕ, zero, suc, Bool, true, false, if◌then◌else◌, List, length, take, drop, map, arith, refl, ap, length-append}
 use Rattle.std.specs.Prelude.{Option, Some, None}
 use Rattle.std.specs.List.{sum_by}
 use Rattle.std.proofs.lemmas.List.Sums.{sum_by-append, sum_by-cons, sum_by-take-drop}
-use Rattle.std.proofs.lemmas.Grind.{flat_map-append}
 use Rattle.std.specs.Ordering.{is_lt}
 use Rattle.dfs_record.specs.declared.Key.{Key}
 use Rattle.dfs_record.specs.declared.Record.{Record}
@@ -11,7 +10,7 @@ use Rattle.dfs_record.specs.declared.RecordRef.{RecordRef}
 use Rattle.dfs_record.specs.Key.{key_cmp}
 use Rattle.dfs_record.specs.Lend.{key_of}
 use Rattle.dfs_record.specs.Reading.{record_at}
-use Rattle.dfs_block.specs.Front.{first_and, records_front, so_many}
+use Rattle.dfs_block.specs.Front.{first_and, records_front}
 use Rattle.dfs_fence.specs.declared.fence.Fence.{Fence}
 use Rattle.dfs_fence.specs.Ranges.{is_below}
 use Rattle.dfs_table.specs.declared.table.Table.{Table}

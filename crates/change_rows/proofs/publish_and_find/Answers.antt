@@ -1,4 +1,4 @@
-use Rattle.std.proofs.Common.{◌≡◌, ◌∷◌, [], ◌∙◌, true, sym, subst}
+use Rattle.std.proofs.Common.{◌∷◌, [], ◌∙◌, sym, subst}
 use Rattle.dfs_host.specs.Host.{bytes_of}
 use Rattle.dfs_record.specs.Delta.{delta}
 use Rattle.dfs_record.specs.Lend.{record_of}

@@ -1,4 +1,4 @@
-use Rattle.std.proofs.Common.{◌≡◌, ◌++◌, ◌∷◌, [], ◌∙◌, ℕ, refl, sym, ap, subst}
+use Rattle.std.proofs.Common.{◌≡◌, ◌++◌, ◌∷◌, [], ◌∙◌, ℕ, refl, sym, subst}
 use Rattle.std.specs.List.{AllByRecursion}
 use Rattle.dfs_host.specs.Host.{bytes_of}
 use Rattle.dfs_mem.specs.MemHost.{state_of}

@@ -1,4 +1,4 @@
-use Rattle.std.proofs.Common.{sym, ◌∙◌, ◌≤◌, ap, drop, length, arith, subst}
+use Rattle.std.proofs.Common.{sym, ◌∙◌, ◌≤◌, ap, length, subst}
 use Rattle.std.specs.Prelude.{option_copied}
 use Rattle.dfs_table.specs.RunRecords.{blocks_left, records_in}
 use Rattle.dfs_table.specs.Counts.{count_of}

@@ -1,5 +1,5 @@
 -- A job that begins.
-use Rattle.std.proofs.Common.{◌≡◌, ◌≢◌, ◌∙◌, ℕ, ◌+◌, ◌<◌, false, List, [], ◌∷◌, Some, Result, Ok, Err, refl, sym, ap, subst, arith}
+use Rattle.std.proofs.Common.{◌≡◌, ◌≢◌, ◌∙◌, ℕ, ◌+◌, ◌<◌, false, List, [], ◌∷◌, Some, None, map, Result, Ok, Err, refl, sym, ap, subst, arith}
 use Rattle.std.proofs.lemmas.Bool.{or_from, ne_eqb}
 use Rattle.std.specs.Prelude.{IsTrue}
 use Rattle.std.specs.BTreeMap.{BTreeMap, insert_entry}
@@ -12,7 +12,9 @@ use Rattle.dfs_host.specs.declared.fault.Failed.{Failed}
 use Rattle.dfs_host.specs.declared.fault.Fault.{Fault}
 use Rattle.dfs_host.specs.declared.fault.Fault.TheVariants.{NoMemory, Disk, LogFull, Changed}
 use Rattle.dfs_host.proofs.Moments.{silent_only}
+use Rattle.dfs_record.specs.declared.SnapName.{SnapName}
 use Rattle.dfs_record.specs.Delta.{Delta}
+use Rattle.dfs_change.specs.declared.change.Change.{Change}
 use Rattle.dfs_registry.specs.declared.listed.Listed.{Listed}
 use Rattle.dfs_registry.specs.Body.{greatest_job, lists_job}
 use Rattle.dfs_ops.specs.declared.Ids.{Ids}
@@ -23,18 +25,22 @@ use Rattle.dfs_view.specs.Layers.{selected}
 use Rattle.dfs_job.specs.declared.job.Job.{Job as LiveJob}
 use Rattle.dfs_job.specs.Job.{Job, begun, first_ids}
 use Rattle.dfs_job.specs.Stands.{JobIsSound, JobStands, StandsForOne}
+use Rattle.dfs_session.specs.declared.keeping.Kept.{Kept}
 use Rattle.dfs_session.specs.declared.session.Session.{Session as LiveSession}
 use Rattle.dfs_session.specs.Files.{value_on}
 use Rattle.dfs_session.specs.Images.{HoldsEither}
+use Rattle.dfs_session.specs.Kept.{EachBegun, IsIndexed, IsOwn, begin_in}
 use Rattle.dfs_session.specs.Session.{Session, begins_over, word_cmp, Registry}
-use Rattle.dfs_session.specs.Sound.{AreApart, IsListed, IsLive, IsSound, PlainOf, number_of, jobs_of, listed_in}
+use Rattle.dfs_session.specs.Sound.{AreApart, IsEntry, IsListed, IsLive, IsSound, NoneHas, PlainOf, live_in, number_of, jobs_of, listed_in}
 use Rattle.dfs_session.specs.Stands.{EntryStands, Stands}
-use Rattle.dfs_session.specs.Worked.{IsWorked, Work, has_refused, plain}
+use Rattle.dfs_session.specs.Worked.{AreNamed, HasNames, IsWorked, Work, beginning_over, has_refused}
+use Rattle.dfs_session.proofs.Begun.{each_begun, kept_still}
 use Rattle.dfs_session.proofs.Faults.{sound_refused, full_by}
 use Rattle.dfs_session.proofs.Images.{own_images}
-use Rattle.dfs_session.proofs.Jobs.{Live, all_insert, apart_insert, zip_insert}
-use Rattle.dfs_session.proofs.Kept.{EntryKept, Keeps, keep_jobs, keep_listed, only_keeps, plains_stay, registry_kept, registry_value, stands_kept, unlisted_apart}
+use Rattle.dfs_session.proofs.Jobs.{Live, all_insert, apart_insert, none_uninserted, zip_insert}
+use Rattle.dfs_session.proofs.Kept.{EntryKept, Keeps, bytes_stay, keep_jobs, keep_listed, only_keeps, plains_stay, registry_kept, registry_value, stands_kept, unlisted_apart}
 use Rattle.dfs_session.proofs.Lists.{mapped}
+use Rattle.dfs_session.proofs.Selecting.{found_listed}
 use Rattle.dfs_session.proofs.Working.{worked_by_memory}
 
 abbrev IsDiskFault : Fault → Type 0
@@ -65,6 +71,8 @@ disk_worked before after old new work silent cause refused images = record {
   cause = cause;
   full = full_by (Err Disk) new (is_disk_fault LogFull) refused;
   short = λ s tells stands is. absurd (is_disk_fault LogFull is);
+  reads = λ quiet. tt;
+  names = tt;
 }
 
 -- a line that found no memory
@@ -73,7 +81,7 @@ pub no_memory_worked : (before after : HostState) (old new : LiveSession) (work 
     → ((s : Session) → IsTrue before.tells → Stands before old s → LeavesOnly (HoldsEither s.registry (work.step s).session.registry) before after)
     → IsWorked work before after old new (Err NoMemory)
 no_memory_worked before after old new work silent none refused settings value same images =
-    worked_by_memory before after old new work (Err NoMemory) refl silent none refused settings tt (λ s tells stands. tt) (λ s tells stands. tt) value same images
+    worked_by_memory before after old new work (Err NoMemory) refl silent none refused settings tt (λ s tells stands. tt) (λ s tells stands. tt) value same images (λ quiet. tt) tt
 
 -- the cause of a call on the disk that failed, and of one that did not
 pub failed_cause : {T U : Type 0} {before after : HostState} (result : Result T Failed) (failed : Failed) → result ≡ Err failed → HasDiskCause before after result → after.reads ≡ before.reads → HasFaultCause {T = U} before after (Err Disk)
@@ -130,17 +138,18 @@ module _ (before after : HostState) (session : LiveSession) (sound : IsSound bef
   pub begun_images : (s : Session) (later : Registry) → IsTrue before.tells → Stands before session s → LeavesOnly (HoldsEither s.registry later) before after
   begun_images s later tells stands = own_images before after session s later number tells sound stands (λ is. absurd (omega (arith, is))) (unlisted_apart (listed_in session) number unlisted) only
 
-  module _ (word : JobWord) (job : LiveJob) (jobs : BTreeMap JobWord LiveJob) (inserted : jobs.entries ≡ insert_entry word_cmp (jobs_of session) word job) (is_sound : JobIsSound after job) (ids : job.ids ≡ first_ids number)
-      (basis_listed : AllByRecursion (IsListed (listed_in session)) (selected job.layers)) where
+  module _ (word : JobWord) (absent : live_in session word ≡ None) (job : LiveJob) (jobs : BTreeMap JobWord LiveJob) (inserted : jobs.entries ≡ insert_entry word_cmp (jobs_of session) word job) (is_sound : JobIsSound after job) (ids : job.ids ≡ first_ids number)
+      (entries : AllByRecursion (IsEntry (listed_in session)) (selected job.layers)) (opened : IsTrue before.tells → AllByRecursion (IsOwn before) (selected job.layers))
+      (kept : Kept) (indexed : IsIndexed kept) (here : begin_in kept number ≡ selected job.layers) (other_begins : (other : ℕ) → other ≢ number → begin_in kept other ≡ begin_in session.kept other) where
     abbrev begun_session : LiveSession
-    begun_session = record session { jobs = jobs; greatest = number }
+    begun_session = record session { jobs = jobs; greatest = number; kept = kept }
 
     is_live : IsLive number (listed_in session) job
     is_live = let same : number_of job ≡ number = ap (λ (n : Ids). n.job) ids in record {
       fit = is_sound.fit;
       numbered = omega (arith, same);
       unlisted = ap (lists_job (listed_in session)) same ∙ unlisted;
-      basis = basis_listed;
+      basis = mapped (IsEntry (listed_in session)) (IsListed (listed_in session)) (selected job.layers) (λ c is. found_listed c.listed.name (listed_in session) c.listed is) entries;
     }
 
     later_live : (x : LiveJob) → IsLive session.greatest (listed_in session) x → IsLive number (listed_in session) x
@@ -149,6 +158,9 @@ module _ (before after : HostState) (session : LiveSession) (sound : IsSound bef
     others : (es : Live) → AllByRecursion (λ e. IsLive session.greatest (listed_in session) e.1) es → AllByRecursion (λ e. number_of job ≢ number_of e.1) es
     others [] live = tt
     others (e ∷ es) live = (λ is. let same : number_of job ≡ number = ap (λ (n : Ids). n.job) ids in absurd (omega (arith, is, same, live.0.numbered)), others es live.1)
+
+    now_entries : EachBegun (IsEntry (listed_in session)) kept
+    now_entries = each_begun (IsEntry (listed_in session)) session.kept kept number (selected job.layers) here other_begins entries sound.memory.entries
 
     pub begun_sound : IsSound after begun_session
     begun_sound = record {
@@ -162,12 +174,34 @@ module _ (before after : HostState) (session : LiveSession) (sound : IsSound bef
             (all_insert (λ x. IsLive number (listed_in session) x) (jobs_of session) word job is_live
             (mapped (λ e. IsLive session.greatest (listed_in session) e.1) (λ e. IsLive number (listed_in session) e.1) (jobs_of session) (λ e live. later_live e.1 live) sound.memory.jobs));
         apart = subst AreApart (sym inserted) (apart_insert (jobs_of session) word job (others (jobs_of session) sound.memory.jobs) sound.memory.apart);
+        kept = indexed;
+        entries = now_entries;
+        ended = λ n none.
+            let both = none_uninserted (jobs_of session) word job n absent (subst (NoneHas n) inserted none) in
+            other_begins n (λ is. both.0 (ap (λ (i : Ids). i.job) ids ∙ sym is)) ∙ sound.memory.ended n both.1;
       };
       registry = λ tells. let told = sym only.tells ∙ tells in registry_kept before after session.registry (keeps_zero told) (sound.registry told);
       jobs = λ tells. let told = sym only.tells ∙ tells in
           subst (λ (es : Live). AllByRecursion (PlainOf after) es) (sym inserted)
           (all_insert (λ x. StandsForOne after x) (jobs_of session) word job (is_sound.stands tells) (plains_stay before after (jobs_of session) (keeps_jobs told) (sound.jobs told)));
+      kept = λ tells. let told = sym only.tells ∙ tells in
+          kept_still before after (listed_in session) kept (bytes_stay before after (listed_in session) (keeps_listed told)) now_entries
+          (each_begun (IsOwn before) session.kept kept number (selected job.layers) here other_begins (opened told) (sound.kept told));
     }
+
+    abbrev names : List SnapName
+    names = map (λ c. c.listed.name) (selected job.layers)
+
+    -- the new job has the names of its selection, and the others have theirs
+    begun_names : AreNamed (Some names) session begun_session
+    begun_names = subst (AllByRecursion (λ e. HasNames (Some names) session begun_session e.1)) (sym inserted)
+        (all_insert (λ x. HasNames (Some names) session begun_session x) (jobs_of session) word job
+        (record { stay = λ was. absurd (omega (arith, was, same_number)); begun = λ below. ap (λ (cs : List Change). Some (map (λ c. c.listed.name) cs)) (sym (ap (begin_in kept) same_number ∙ here)) })
+        (mapped (λ e. IsLive session.greatest (listed_in session) e.1) (λ e. HasNames (Some names) session begun_session e.1) (jobs_of session)
+        (λ e live. record { stay = λ was. ap (map (λ c. c.listed.name)) (other_begins (number_of e.1) (λ is. absurd (omega (arith, is, live.numbered)))); begun = λ below. absurd (omega (arith, below, live.numbered)) }) sound.memory.jobs))
+      where
+        same_number : number_of job ≡ number
+        same_number = ap (λ (i : Ids). i.job) ids
 
     pub begun_stands : (basis : List Delta) (s : Session) → JobStands after job (begun number basis session.settings) → IsTrue before.tells → Stands before session s → Stands after begun_session (begins_over s word basis).session
     begun_stands basis s job_stands tells stands =
@@ -182,12 +216,12 @@ module _ (before after : HostState) (session : LiveSession) (sound : IsSound bef
           settings = stands.settings;
         }
 
-    pub begun_worked : (basis : List Delta) (bytes : Vec ℕ) → (IsTrue before.tells → JobStands after job (begun number basis session.settings)) → NoFault before after → bytes.items ≡ text (JobReply number)
-        → IsWorked (plain (λ s. begins_over s word basis)) before after session begun_session (Ok bytes)
-    begun_worked basis bytes job_stands none says =
-        worked_by_memory before after session begun_session (plain (λ s. begins_over s word basis)) (Ok bytes) tt (silent_only only) none (sound_refused begun_session begun_sound.memory) refl begun_sound
+    pub begun_worked : (basis : List Delta) (bytes : Vec ℕ) → (IsTrue before.tells → JobStands after job (begun number basis session.settings)) → NoFault before after → after.reads ≡ before.reads → bytes.items ≡ text (JobReply number)
+        → IsWorked (beginning_over word names basis) before after session begun_session (Ok bytes)
+    begun_worked basis bytes job_stands none reads says =
+        worked_by_memory before after session begun_session (beginning_over word names basis) (Ok bytes) tt (silent_only only) none (sound_refused begun_session begun_sound.memory) refl begun_sound
         (λ s tells stands. says ∙ ap (λ (n : ℕ). text (JobReply (n + 1))) (sym stands.greatest))
         (λ s tells stands. begun_stands basis s (job_stands tells) tells stands)
         (λ s tells stands. begun_value s tells stands)
         (λ s tells stands. refl)
-        (λ s tells stands. begun_images s (begins_over s word basis).session.registry tells stands)
+        (λ s tells stands. begun_images s (begins_over s word basis).session.registry tells stands) (λ quiet. reads) begun_names

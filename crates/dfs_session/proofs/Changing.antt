@@ -21,20 +21,23 @@ use Rattle.dfs_view.specs.Layers.{selected}
 use Rattle.dfs_job.specs.declared.job.Job.{Job as LiveJob}
 use Rattle.dfs_job.specs.Job.{Job}
 use Rattle.dfs_job.specs.Stands.{JobIsSound, JobStands, StandsForOne}
+use Rattle.dfs_session.specs.declared.keeping.Kept.{Kept}
 use Rattle.dfs_session.specs.declared.session.Session.{Session as LiveSession}
 use Rattle.dfs_session.specs.Files.{value_on}
 use Rattle.dfs_session.specs.Images.{HoldsEither}
+use Rattle.dfs_session.specs.Kept.{IsOwn}
 use Rattle.dfs_session.specs.Session.{Registry, Session, Step, live_job, of_live, ends, word_cmp}
-use Rattle.dfs_session.specs.Sound.{AreApart, IsListed, IsLive, IsSound, PlainOf, jobs_of, listed_in, live_in, number_of}
+use Rattle.dfs_session.specs.Sound.{AreApart, IsEntry, IsListed, IsLive, IsSound, NoneHas, PlainOf, jobs_of, listed_in, live_in, number_of}
 use Rattle.dfs_session.specs.Stands.{EntryStands, LeavesValue, Stands}
-use Rattle.dfs_session.specs.Worked.{IsShort, IsWorked, Work, has_refused, plain}
+use Rattle.dfs_session.specs.Worked.{AreNamed, IsShort, IsWorked, Work, has_refused, plain}
+use Rattle.dfs_session.proofs.Begun.{HasEnded, each_ended, kept_still, still_none}
 use Rattle.dfs_session.proofs.Faults.{unrefused, each_unrefused, sound_refused, not_true}
 use Rattle.dfs_session.proofs.Handed.{fault_or, handed_cause}
 use Rattle.dfs_session.proofs.Images.{own_images, read_images}
-use Rattle.dfs_session.proofs.Jobs.{Live, FoundBoth, all_set, all_found, all_remove, any_set, apart_set, apart_remove, both_found, zip_remove}
+use Rattle.dfs_session.proofs.Jobs.{Live, FoundBoth, all_set, all_found, all_remove, any_set, apart_set, apart_remove, both_found, none_unremoved, none_unset, removed_apart, zip_remove}
 use Rattle.dfs_session.proofs.Kept.{Keeps, bytes_stay, keep_listed, only_keeps, plains_changed, registry_kept, registry_value, settled_stay, unlisted_apart, zip_changed}
 use Rattle.dfs_session.proofs.Values.{same_publications, stands_value}
-use Rattle.dfs_session.proofs.Working.{OnlyMemory, on_ok, worked_by_memory}
+use Rattle.dfs_session.proofs.Working.{OnlyMemory, ended_names, on_ok, same_names, worked_by_memory}
 
 abbrev Jobs : Type 0
 Jobs = BTreeMap JobWord LiveJob
@@ -149,11 +152,15 @@ module _ (before after : HostState) (session : LiveSession) (word : JobWord) (li
               })
               sound.memory.jobs);
           apart = subst AreApart (sym set) (apart_set test (jobs_of session) live new found same sound.memory.apart);
+          kept = sound.memory.kept;
+          entries = sound.memory.entries;
+          ended = λ job none. sound.memory.ended job (none_unset test (jobs_of session) live new job found same (subst (NoneHas job) set none));
         };
         registry = registry_still;
         jobs = λ tells. let told = sym only.tells ∙ tells in
             subst (λ (es : Live). AllByRecursion (PlainOf after) es) (sym set)
             (plains_changed before after (listed_in session) session.greatest live.ids.job (own_keeps told) was_live.unlisted test (jobs_of session) live new found refl sound.memory.jobs sound.memory.apart (is.stands tells) (sound.jobs told));
+        kept = λ tells. let told = sym only.tells ∙ tells in kept_still before after (listed_in session) session.kept (bytes_stay before after (listed_in session) (listed_kept told)) sound.memory.entries (sound.kept told);
       }
 
       pub changed_stands : (s : Session) (j : Job) → IsTrue before.tells → Stands before session s → JobStands after new j → Stands after changed (record s { jobs = set_value test s.jobs j })
@@ -180,6 +187,8 @@ module _ (before after : HostState) (session : LiveSession) (word : JobWord) (li
         cause = handed_cause fault (none_yet before) cause;
         full = full_with (Err fault) (λ is. full.0 (ap Err (ap fault_or is)), λ some. ap Err (ap (fault_or {T = T}) (full.1 some)));
         short = λ s tells stands is. short s tells stands (ap fault_or is);
+        reads = λ quiet. tt;
+        names = tt;
       }
         where
           leaves : (f : Fault) (a b : Registry) (files : Option Registry) → files ≡ Some a → LeavesValue {T = Vec ℕ} (Err f) a b files
@@ -193,8 +202,8 @@ module _ (before after : HostState) (session : LiveSession) (word : JobWord) (li
           → JobIsSound after new → new.ids.job ≡ live.ids.job → selected new.layers ≡ selected live.layers
           → ((s : Session) (f : Found before s word live) → work.step s ≡ next s f) → ((s : Session) (f : Found before s word live) → (next s f).session.registry ≡ s.registry)
           → ((s : Session) (f : Found before s word live) → IsTrue before.tells → IfOk result (λ bytes. bytes.items ≡ text (next s f).reply))
-          → ((s : Session) (f : Found before s word live) → IsTrue before.tells → Stands before session s → Stands after changed (next s f).session) → OnlyMemory result → IsWorked work before after session changed result
-      answered_worked work next result none unrefused given is same basis stepped kept says stood memory =
+          → ((s : Session) (f : Found before s word live) → IsTrue before.tells → Stands before session s → Stands after changed (next s f).session) → OnlyMemory result → (work.quiet session → ⊥) → IsWorked work before after session changed result
+      answered_worked work next result none unrefused given is same basis stepped kept says stood memory loud =
           let new_sound = changed_sound is same basis in
           let found_in : (s : Session) → Stands before session s → Found before s word live = λ s stands. found_job before session s word live stands found in
           worked_by_memory before after session changed work result memory (silent_only only) none (still_unrefused unrefused) given (on_ok result (IsSound after changed) new_sound)
@@ -202,16 +211,17 @@ module _ (before after : HostState) (session : LiveSession) (word : JobWord) (li
           (λ s tells stands. let f = found_in s stands in subst (λ (t : Step). OnOk result (Stands after changed t.session)) (sym (stepped s f)) (on_ok result (Stands after changed (next s f).session) (stood s f tells stands)))
           (λ s tells stands. own_value s tells stands)
           (λ s tells stands. let f = found_in s stands in ap (λ (t : Step). t.session.registry) (stepped s f) ∙ kept s f)
-          (λ s tells stands. own_job_images s (work.step s).session.registry tells stands)
+          (λ s tells stands. own_job_images s (work.step s).session.registry tells stands) (λ quiet. absurd (loud quiet))
+          (on_ok result (AreNamed work.names session changed) (same_names session changed work.names refl refl new_sound.memory))
 
 -- ---- a job that ends
 
-pub ended_worked : (host : HostState) (session : LiveSession) (word : JobWord) (live : LiveJob) (jobs : Jobs) (result : Result (Vec ℕ) Fault) → IsSound host session → live_in session word ≡ Some live
-    → jobs.entries ≡ remove_entry (is_at (word_cmp word)) (jobs_of session) → IfOk result (λ bytes. bytes.items ≡ text OkReply) → OnlyMemory result
-    → IsWorked (plain (λ s. ends s word)) host host session (record session { jobs = jobs }) result
-ended_worked host session word live jobs result sound found gone says memory =
+pub ended_worked : (host : HostState) (session : LiveSession) (word : JobWord) (live : LiveJob) (jobs : Jobs) (kept : Kept) (result : Result (Vec ℕ) Fault) → IsSound host session → live_in session word ≡ Some live
+    → jobs.entries ≡ remove_entry (is_at (word_cmp word)) (jobs_of session) → HasEnded session.kept kept (number_of live) → IfOk result (λ bytes. bytes.items ≡ text OkReply) → OnlyMemory result
+    → IsWorked (plain (λ s. ends s word)) host host session (record session { jobs = jobs; kept = kept }) result
+ended_worked host session word live jobs kept result sound found gone ended says memory =
     let test : JobWord → Bool = is_at (word_cmp word) in
-    let new : LiveSession = record session { jobs = jobs } in
+    let new : LiveSession = record session { jobs = jobs; kept = kept } in
     let new_sound : IsSound host new = record {
       memory = record {
         live = sound.memory.live;
@@ -221,9 +231,13 @@ ended_worked host session word live jobs result sound found gone says memory =
         listed = sound.memory.listed;
         jobs = subst (λ (es : Live). AllByRecursion (λ e. IsLive session.greatest (listed_in session) e.1) es) (sym gone) (all_remove (λ x. IsLive session.greatest (listed_in session) x) test (jobs_of session) sound.memory.jobs);
         apart = subst AreApart (sym gone) (apart_remove test (jobs_of session) sound.memory.apart);
+        kept = ended.indexed;
+        entries = each_ended (IsEntry (listed_in session)) session.kept kept (number_of live) ended sound.memory.entries;
+        ended = λ job none. still_none session.kept kept (number_of live) ended job (λ other. sound.memory.ended job (none_unremoved test (jobs_of session) live job found other (subst (NoneHas job) gone none)));
       };
       registry = sound.registry;
       jobs = λ tells. subst (λ (es : Live). AllByRecursion (PlainOf host) es) (sym gone) (all_remove (λ x. StandsForOne host x) test (jobs_of session) (sound.jobs tells));
+      kept = λ tells. each_ended (IsOwn host) session.kept kept (number_of live) ended (sound.kept tells);
     } in
     let stepped : (s : Session) (f : Found host s word live) → ends s word ≡ record { session = record s { jobs = remove_entry test s.jobs }; reply = OkReply } = λ s f. ap (λ (o : Option Job). of_live o s (λ j. record { session = record s { jobs = remove_entry test s.jobs }; reply = OkReply })) f.found in
     worked_by_memory host host session new (plain (λ s. ends s word)) result memory (silent_reads (reads_nothing host)) (none_yet host) (sound_refused new new_sound.memory) refl (on_ok result (IsSound host new) new_sound)
@@ -239,4 +253,5 @@ ended_worked host session word live jobs result sound found gone says memory =
     })))
     (λ s tells stands. stands_value host session s tells sound stands)
     (λ s tells stands. ap (λ (t : Step). t.session.registry) (stepped s (found_job host session s word live stands found)))
-    (λ s tells stands. read_images host host session s (ends s word).session.registry tells sound stands (reads_nothing host))
+    (λ s tells stands. read_images host host session s (ends s word).session.registry tells sound stands (reads_nothing host)) (λ quiet. absurd quiet)
+    (on_ok result (AreNamed None session new) (ended_names session new None (number_of live) refl ended (subst (AllByRecursion (λ e. number_of live ≢ number_of e.1)) (sym gone) (removed_apart test (jobs_of session) live found sound.memory.apart)) new_sound.memory))

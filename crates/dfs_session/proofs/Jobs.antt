@@ -4,8 +4,8 @@ use Rattle.std.proofs.lemmas.Option.{none-some}
 use Rattle.std.specs.Prelude.{nat_lt, ◌||◌}
 use Rattle.std.specs.List.{AllByRecursion, AllZip, list_any}
 use Rattle.std.specs.Map.{lookup, set_value, remove_entry}
-use Rattle.std.specs.BTreeMap.{insert_entry}
-use Rattle.std.specs.Ordering.{match_ordering}
+use Rattle.std.specs.BTreeMap.{insert_entry, is_at}
+use Rattle.std.specs.Ordering.{is_eq, match_ordering}
 use Rattle.std.specs.declared.cmp.Ordering.{Ordering}
 use Rattle.std.specs.declared.cmp.Ordering.TheVariants.{Less, Equal, Greater}
 use Rattle.dfs_script.specs.declared.JobWord.{JobWord}
@@ -14,7 +14,7 @@ use Rattle.dfs_host.specs.Host.{HostState}
 use Rattle.dfs_job.specs.Job.{Job}
 use Rattle.dfs_job.specs.Stands.{JobStands}
 use Rattle.dfs_session.specs.Session.{word_cmp}
-use Rattle.dfs_session.specs.Sound.{number_of, AreApart}
+use Rattle.dfs_session.specs.Sound.{AreApart, NoneHas, number_of}
 use Rattle.dfs_session.specs.Stands.{EntryStands}
 
 abbrev pub Live : Type 0
@@ -116,6 +116,34 @@ remove_set test (e ∷ es) x = by (test e.0) (remove_set test es x) refl
     by : (b : Bool) → remove_entry test (set_value test es x) ≡ remove_entry test es → test e.0 ≡ b → remove_entry test (cond b ((e.0, x) ∷ es) (e ∷ set_value test es x)) ≡ cond b es (e ∷ remove_entry test es)
     by true rest is = ap (λ (b : Bool). cond b es ((e.0, x) ∷ remove_entry test es)) is
     by false rest is = ap (λ (b : Bool). cond b (set_value test es x) (e ∷ remove_entry test (set_value test es x))) is ∙ ap (λ (l : Live). e ∷ l) rest
+
+-- numbers that no job has
+
+pub none_unset : (test : JobWord → Bool) (es : Live) (old x : LiveJob) (n : ℕ) → lookup test es ≡ Some old → number_of x ≡ number_of old → NoneHas n (set_value test es x) → NoneHas n es
+none_unset test [] old x n is same none = tt
+none_unset test (e ∷ es) old x n is same none = by (test e.0) (λ later. none_unset test es old x n later same) is none
+  where
+    by : (b : Bool) → (lookup test es ≡ Some old → NoneHas n (set_value test es x) → NoneHas n es) → cond b (Some e.1) (lookup test es) ≡ Some old → NoneHas n (cond b ((e.0, x) ∷ es) (e ∷ set_value test es x)) → NoneHas n (e ∷ es)
+    by true rest first none = (λ has. none.0 (same ∙ ap number_of (sym (same_job e.1 old first)) ∙ has), none.1)
+    by false rest later none = (none.0, rest later none.1)
+
+pub none_unremoved : (test : JobWord → Bool) (es : Live) (x : LiveJob) (n : ℕ) → lookup test es ≡ Some x → number_of x ≢ n → NoneHas n (remove_entry test es) → NoneHas n es
+none_unremoved test [] x n is other none = tt
+none_unremoved test (e ∷ es) x n is other none = by (test e.0) (λ later. none_unremoved test es x n later other) is none
+  where
+    by : (b : Bool) → (lookup test es ≡ Some x → NoneHas n (remove_entry test es) → NoneHas n es) → cond b (Some e.1) (lookup test es) ≡ Some x → NoneHas n (cond b es (e ∷ remove_entry test es)) → NoneHas n (e ∷ es)
+    by true rest first none = (λ has. other (ap number_of (sym (same_job e.1 x first)) ∙ has), none)
+    by false rest later none = (none.0, rest later none.1)
+
+pub none_uninserted : (es : Live) (word : JobWord) (x : LiveJob) (n : ℕ) → lookup (is_at (word_cmp word)) es ≡ None → NoneHas n (insert_entry word_cmp es word x) → (number_of x ≢ n) × NoneHas n es
+none_uninserted [] word x n absent none = (none.0, tt)
+none_uninserted (e ∷ es) word x n absent none = by (word_cmp word e.0) (none_uninserted es word x n) absent none
+  where
+    by : (o : Ordering) → (lookup (is_at (word_cmp word)) es ≡ None → NoneHas n (insert_entry word_cmp es word x) → (number_of x ≢ n) × NoneHas n es) → cond (is_eq o) (Some e.1) (lookup (is_at (word_cmp word)) es) ≡ None
+        → NoneHas n (match_ordering o ((word, x) ∷ e ∷ es) ((e.0, x) ∷ es) (e ∷ insert_entry word_cmp es word x)) → (number_of x ≢ n) × NoneHas n (e ∷ es)
+    by Less rest absent none = (none.0, none.1)
+    by Equal rest absent none = absurd (none-some e.1 (sym absent))
+    by Greater rest absent none = let both = rest absent none.1 in (both.0, (none.0, both.1))
 
 any_behind : (b c : Bool) → c ≡ true → (b || c) ≡ true
 any_behind true c is = refl

@@ -10,8 +10,8 @@ use Rattle.dfs_change.specs.declared.change.Change.{Change}
 use Rattle.dfs_view.specs.Layers.{selected}
 use Rattle.dfs_job.specs.Job.{Job}
 use Rattle.dfs_record.specs.Delta.{Delta}
-use Rattle.dfs_job.specs.Stands.{IsSelectable, IsStoredFor, JobStands, StandsForOne}
-use Rattle.dfs_job.proofs.Apart.{ReadsSame, basis_still, selectable_still, stands_still}
+use Rattle.dfs_job.specs.Stands.{IsStoredFor, JobStands, StandsForOne}
+use Rattle.dfs_job.proofs.Apart.{ReadsSame, basis_still, stands_still}
 use Rattle.dfs_registry.specs.declared.listed.Listed.{Listed}
 use Rattle.dfs_registry.specs.Body.{lists_job}
 use Rattle.dfs_registry.specs.Seen.{RegistryState}
@@ -19,9 +19,11 @@ use Rattle.dfs_registry.specs.Standing.{RegistryStands}
 use Rattle.dfs_script.specs.declared.JobWord.{JobWord}
 use Rattle.dfs_job.specs.declared.job.Job.{Job as LiveJob}
 use Rattle.dfs_session.specs.declared.session.Session.{Session as LiveSession}
+use Rattle.dfs_session.specs.Kept.{IsOwn}
 use Rattle.dfs_session.specs.Session.{Session}
 use Rattle.dfs_session.specs.Sound.{AreApart, IsListed, IsLive, IsSound, PlainOf, jobs_of, listed_in, number_of}
 use Rattle.dfs_session.specs.Stands.{EntryStands, Stands, LogIsSettled}
+use Rattle.dfs_session.proofs.Begun.{kept_still, opened_still}
 use Rattle.dfs_session.proofs.Jobs.{Live, Plain, all_found, same_job}
 use Rattle.dfs_session.proofs.Lists.{mapped}
 use Rattle.dfs_registry.proofs.Standing.{standing_list}
@@ -172,6 +174,7 @@ sound_reads before after session only sound = record {
   memory = sound.memory;
   registry = λ tells. let told = sym only.tells ∙ tells in registry_kept before after session.registry (reads_keep only told 0) (sound.registry told);
   jobs = λ tells. let told = sym only.tells ∙ tells in plains_stay before after (jobs_of session) (keep_all_jobs before after (jobs_of session) (reads_keep only told)) (sound.jobs told);
+  kept = λ tells. let told = sym only.tells ∙ tells in kept_still before after (listed_in session) session.kept (bytes_stay before after (listed_in session) (keep_all before after (listed_in session) (reads_keep only told))) sound.memory.entries (sound.kept told);
 }
 
 -- the same publications stand where the listed logs are kept, and the jobs where theirs are
@@ -204,5 +207,5 @@ zip_read before after only tells cs ds zip = basis_still before after cs ds (map
     mapped_all each [] = tt
     mapped_all each (c ∷ cs) = (each c, mapped_all each cs)
 
-pub all_selectable : (before after : HostState) → OnlyReads before after → IsTrue before.tells → (cs : List Change) → AllByRecursion (IsSelectable before) cs → AllByRecursion (IsSelectable after) cs
-all_selectable before after only tells cs all = mapped (IsSelectable before) (IsSelectable after) cs (λ c is. selectable_still before after c (ap bytes_in (reads_keep only tells c.listed.job)) is) all
+pub all_opened : (before after : HostState) → OnlyReads before after → IsTrue before.tells → (cs : List Change) → AllByRecursion (IsOwn before) cs → AllByRecursion (IsOwn after) cs
+all_opened before after only tells cs all = mapped (IsOwn before) (IsOwn after) cs (λ c is. opened_still before after c (ap bytes_in (reads_keep only tells c.listed.job)) is) all

@@ -1,4 +1,6 @@
 mod Lists
+mod Uses
+mod Begun
 mod Numbered
 mod Values
 mod Images

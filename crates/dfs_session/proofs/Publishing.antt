@@ -1,5 +1,5 @@
 -- A publication: the changes are sealed in the job's log, the registry gets its entry, and the job ends.
-use Rattle.std.proofs.Common.{◌≡◌, ◌≢◌, ◌∙◌, inl, inr, ⊎_elim, ℕ, ◌≤◌, max, Bool, true, false, List, [], ◌∷◌, ◌++◌, Option, Some, Result, Ok, Err, refl, sym, ap, subst, arith}
+use Rattle.std.proofs.Common.{◌≡◌, ◌≢◌, ◌∙◌, inl, inr, ⊎_elim, ℕ, ◌≤◌, max, Bool, true, false, List, [], ◌∷◌, ◌++◌, Option, Some, None, Result, Ok, Err, refl, sym, ap, subst, arith}
 use Rattle.std.proofs.lemmas.Bool.{or_from, ne_eqb, le-leb, and_from}
 use Rattle.std.proofs.lemmas.List.{map-append}
 use Rattle.std.specs.Prelude.{IsTrue, IsFalse, ◌==◌, ◌||◌}
@@ -19,7 +19,7 @@ use Rattle.dfs_record.specs.KeyMap.{len}
 use Rattle.dfs_record.specs.Name.{is_between}
 use Rattle.dfs_change.specs.declared.change.Change.{Change}
 use Rattle.dfs_registry.specs.declared.listed.Listed.{Listed}
-use Rattle.dfs_registry.specs.Body.{greatest_job, has_job, lists_job}
+use Rattle.dfs_registry.specs.Body.{greatest_job, has_job, has_name, lists_job}
 use Rattle.dfs_registry.specs.Reading.{HasOldOrNew}
 use Rattle.dfs_registry.specs.Seen.{RegistryState}
 use Rattle.dfs_registry.specs.Standing.{RegistryStands}
@@ -33,24 +33,27 @@ use Rattle.dfs_view.specs.Layers.{selected}
 use Rattle.dfs_job.specs.declared.job.Job.{Job as LiveJob}
 use Rattle.dfs_job.specs.Job.{Job, own_changes}
 use Rattle.dfs_job.specs.Stands.{JobStands, StandsForOne}
+use Rattle.dfs_session.specs.declared.keeping.Kept.{Kept}
 use Rattle.dfs_session.specs.declared.session.Session.{Session as LiveSession}
 use Rattle.dfs_session.specs.Files.{publication_of, publications_of, value_read, value_on}
 use Rattle.dfs_session.specs.Images.{HoldsEither}
+use Rattle.dfs_session.specs.Kept.{EachBegun, IsOwn}
 use Rattle.dfs_session.specs.Session.{Session, Step, Registry, of_live, publication_by, publishes_anew, word_cmp}
-use Rattle.dfs_session.specs.Sound.{AreApart, IsListed, IsLive, IsSound, PlainOf, number_of, jobs_of, listed_in, live_in}
+use Rattle.dfs_session.specs.Sound.{AreApart, IsEntry, IsListed, IsLive, IsSound, NoneHas, PlainOf, number_of, jobs_of, listed_in, live_in}
 use Rattle.dfs_session.specs.Stands.{EntryStands, Stands, LogIsSettled, LeavesValue}
 use Rattle.dfs_session.specs.Worked.{IsWorked, has_refused, publishing_anew}
+use Rattle.dfs_session.proofs.Begun.{HasEnded, each_ended, each_mapped, found_front, kept_still, still_none}
 use Rattle.dfs_session.proofs.Changing.{Found, found_job, listed_kept, own_job_images, own_keeps, own_value, was_live}
 use Rattle.dfs_session.proofs.Faults.{sound_refused, not_true, full_by}
 use Rattle.dfs_session.proofs.Handed.{fault_or, handed_cause}
 use Rattle.dfs_session.proofs.Images.{images_on}
-use Rattle.dfs_session.proofs.Jobs.{Live, all_remove, apart_remove, removed_apart, zip_remove}
+use Rattle.dfs_session.proofs.Jobs.{Live, all_remove, apart_remove, none_unremoved, removed_apart, zip_remove}
 use Rattle.dfs_session.proofs.Kept.{EntryKept, Keeps, bytes_stay, keep_jobs, only_keeps, plains_stay, settled_stay, unlisted_apart, zip_stays}
 use Rattle.dfs_session.proofs.Lists.{mapped}
 use Rattle.dfs_session.proofs.Numbered.{HasFile, AreNumbered, registry_numbered}
 use Rattle.dfs_session.proofs.Selecting.{no_fault}
 use Rattle.dfs_session.proofs.Values.{same_publications, stands_value}
-use Rattle.dfs_session.proofs.Working.{memory_cause}
+use Rattle.dfs_session.proofs.Working.{ended_names, memory_cause}
 
 greatest_push : (ls : List Listed) (l : Listed) → greatest_job (ls ++ l ∷ []) ≡ max (greatest_job ls) l.job
 greatest_push [] l = omega arith
@@ -145,6 +148,8 @@ module _ (before mid after : HostState) (session : LiveSession) (word : JobWord)
     cause = handed_cause fault none cause;
     full = full_by (Err fault) new (λ is. full (ap fault_or is)) refused;
     short = λ s tells stands is. absurd (full (ap fault_or is));
+    reads = λ quiet. tt;
+    names = tt;
   }
     where
       leaves : (f : Fault) → fault ≡ f → (a b : Registry) → value_on mid ≡ Some a → LeavesValue {T = Vec ℕ} (Err f) a b (value_on after)
@@ -157,11 +162,11 @@ module _ (before mid after : HostState) (session : LiveSession) (word : JobWord)
 
 module _ (before mid after : HostState) (session : LiveSession) (word : JobWord) (live : LiveJob) (sound : IsSound before session) (found : live_in session word ≡ Some live)
     (sealing : Only live.ids.job before mid) (listing : Only 0 mid after) (listed : Listed) (same_job : listed.job ≡ live.ids.job)
-    (registry : RegistryState) (jobs : BTreeMap JobWord LiveJob) (added : registry.entries ≡ listed_in session ++ listed ∷ []) (gone : jobs.entries ≡ remove_entry (is_at (word_cmp word)) (jobs_of session))
+    (registry : RegistryState) (jobs : BTreeMap JobWord LiveJob) (kept_now : Kept) (ended : HasEnded session.kept kept_now live.ids.job) (added : registry.entries ≡ listed_in session ++ listed ∷ []) (gone : jobs.entries ≡ remove_entry (is_at (word_cmp word)) (jobs_of session))
     (registry_live : IsFalse registry.spent) (registry_stands : IsTrue mid.tells → RegistryStands after registry)
     (writing : IsTrue mid.tells → ChangesOnly 0 (HasOldOrNew (listed_in session) listed) mid after) where
   abbrev published_session : LiveSession
-  published_session = record session { registry = registry; jobs = jobs }
+  published_session = record session { registry = registry; jobs = jobs; kept = kept_now }
 
   abbrev is_live : IsLive session.greatest (listed_in session) live
   is_live = was_live before mid session word live sound found
@@ -206,6 +211,18 @@ module _ (before mid after : HostState) (session : LiveSession) (word : JobWord)
       keep_jobs mid after (listed_in session) session.greatest 0 (only_keeps listing (sealing.tells ∙ tells)) (zero_unlisted (listed_in session) (numbered tells)) (remove_entry (is_at (word_cmp word)) (jobs_of session)) left
       (no_zero (remove_entry (is_at (word_cmp word)) (jobs_of session)) left)
 
+  -- the logs that were listed
+  old_kept : IsTrue before.tells → AllByRecursion (λ l. Keeps before after l.job) (listed_in session)
+  old_kept tells = both (listed_in session) (unlisted_apart (listed_in session) live.ids.job is_live.unlisted) (numbered tells)
+    where
+      both : (ls : List Listed) → AllByRecursion (λ l. l.job ≢ live.ids.job) ls → AllByRecursion HasFile ls → AllByRecursion (λ l. Keeps before after l.job) ls
+      both [] others numbered = tt
+      both (l ∷ ls) others numbered = (kept tells l.job others.0 numbered.0, both ls others.1 numbered.1)
+
+  -- what is kept now is of the entries that were there
+  old_entries : EachBegun (IsEntry (listed_in session)) kept_now
+  old_entries = each_ended (IsEntry (listed_in session)) session.kept kept_now live.ids.job ended sound.memory.entries
+
   pub published_sound : IsSound after published_session
   published_sound = record {
     memory = record {
@@ -216,6 +233,10 @@ module _ (before mid after : HostState) (session : LiveSession) (word : JobWord)
       listed = subst (λ (ls : List Listed). greatest_job ls ≤ session.greatest) (sym added) (omega (arith, greatest_push (listed_in session) listed, sound.memory.listed, same_job, is_live.numbered));
       jobs = subst (λ (es : Live). AllByRecursion (λ e. IsLive session.greatest registry.entries e.1) es) (sym gone) (still_live (remove_entry (is_at (word_cmp word)) (jobs_of session)) apart left);
       apart = subst AreApart (sym gone) (apart_remove (is_at (word_cmp word)) (jobs_of session) sound.memory.apart);
+      kept = ended.indexed;
+      entries = each_mapped (IsEntry (listed_in session)) (IsEntry registry.entries) kept_now
+          (λ (c : Change) is. subst (λ (ls : List Listed). IsEntry ls c) (sym added) (found_front (has_name c.listed.name) (listed_in session) (listed ∷ []) c.listed is)) old_entries;
+      ended = λ job none. still_none session.kept kept_now live.ids.job ended job (λ other. sound.memory.ended job (none_unremoved (is_at (word_cmp word)) (jobs_of session) live job found other (subst (NoneHas job) gone none)));
     };
     registry = λ tells. registry_stands (sym listing.tells ∙ tells);
     jobs = λ tells.
@@ -223,15 +244,10 @@ module _ (before mid after : HostState) (session : LiveSession) (word : JobWord)
         let es = remove_entry (is_at (word_cmp word)) (jobs_of session) in
         subst (λ (es : Live). AllByRecursion (PlainOf after) es) (sym gone)
         (plains_stay mid after es (others_then told) (plains_stay before mid es (others_first told) (all_remove (λ x. StandsForOne before x) (is_at (word_cmp word)) (jobs_of session) (sound.jobs told))));
+    kept = λ tells.
+        let told = sym sealing.tells ∙ sym listing.tells ∙ tells in
+        kept_still before after (listed_in session) kept_now (bytes_stay before after (listed_in session) (old_kept told)) old_entries (each_ended (IsOwn before) session.kept kept_now live.ids.job ended (sound.kept told));
   }
-
-  -- the logs that were listed
-  old_kept : IsTrue before.tells → AllByRecursion (λ l. Keeps before after l.job) (listed_in session)
-  old_kept tells = both (listed_in session) (unlisted_apart (listed_in session) live.ids.job is_live.unlisted) (numbered tells)
-    where
-      both : (ls : List Listed) → AllByRecursion (λ l. l.job ≢ live.ids.job) ls → AllByRecursion HasFile ls → AllByRecursion (λ l. Keeps before after l.job) ls
-      both [] others numbered = tt
-      both (l ∷ ls) others numbered = (kept tells l.job others.0 numbered.0, both ls others.1 numbered.1)
 
   -- the log that is listed now
   new_kept : IsTrue before.tells → Keeps mid after listed.job
@@ -282,6 +298,8 @@ module _ (before mid after : HostState) (session : LiveSession) (word : JobWord)
         cause = memory_cause (Ok bytes) none tt;
         full = full_by (Ok bytes) published_session (ok_never LogFull) (sound_refused published_session published_sound.memory);
         short = λ s tells stands is. absurd (ok_never LogFull is);
+        reads = λ quiet. absurd quiet;
+        names = ended_names session published_session None live.ids.job refl ended (subst (AllByRecursion (λ e. number_of live ≢ number_of e.1)) (sym gone) apart) published_sound.memory;
       }
     where
       ok_never : (fault : Fault) → ◌≡◌ {A = Result (Vec ℕ) Fault} (Ok bytes) (Err fault) → ⊥

@@ -26,19 +26,23 @@ use Rattle.dfs_view.proofs.Parts.{records_in_file, run_valid}
 use Rattle.dfs_job.specs.Stands.{IsEarlier, IsSelectable, IsStoredFor}
 use Rattle.dfs_session.specs.declared.selection.Selection.TheVariants.{Damaged}
 use Rattle.dfs_session.specs.Files.{publication_of, publications_of}
-use Rattle.dfs_session.specs.Selected.{AreChosen, IsOpened, listed_as, is_listed, chosen_in, IsSelection}
+use Rattle.dfs_session.specs.Selected.{AreChosen, listed_as, is_listed, chosen_in, IsSelection}
 use Rattle.dfs_session.specs.Session.{Publication, Registry, changes_of, is_damaged}
-use Rattle.dfs_session.specs.Sound.{IsListed}
+use Rattle.dfs_session.specs.declared.keeping.Kept.{Kept}
+use Rattle.dfs_session.specs.Kept.{IsKept, IsOpened, IsOwn}
+use Rattle.dfs_session.specs.Sound.{IsEntry}
 use Rattle.dfs_job.proofs.Apart.{selectable_still}
 use Rattle.dfs_session.proofs.Kept.{reads_keep}
 use Rattle.dfs_session.proofs.Lists.{mapped, take_next, parted, filter_map-append, find-append, not_all}
 
 -- what was selected of the names before an index
-pub record SoFar (start now : HostState) (ls : List Listed) (names : List SnapName) (index : ℕ) (cs : List Change) : Type 0 where
-  pub chosen : Told start (AreChosen start (chosen_in ls (take index names)) cs)
-  pub listed : AllByRecursion (IsListed ls) cs
+pub record SoFar (start now : HostState) (ls : List Listed) (kept : Kept) (line : List SnapName) (index : ℕ) (cs : List Change) : Type 0 where
+  pub chosen : Told start (AreChosen start (chosen_in ls (take index line)) cs)
+  pub entries : AllByRecursion (IsEntry ls) cs
   pub only : OnlyReads start now
   pub none : NoFault start now
+  pub names : map (λ c. c.listed.name) cs ≡ take index line
+  pub reads : AllByRecursion (λ l. IsKept kept l.job) (chosen_in ls (take index line)) → now.reads ≡ start.reads
 
 -- ---- a change set that was opened
 
@@ -78,17 +82,17 @@ module _ (files : ℕ → List ℕ) (ls : List Listed) (names : List SnapName) (
   abbrev was : Registry
   was = publications_of files (chosen_in ls (take k names))
 
-  chosen_next : chosen_in ls (take (k + 1) names) ≡ chosen_in ls (take k names) ++ l ∷ []
+  pub chosen_next : chosen_in ls (take (k + 1) names) ≡ chosen_in ls (take k names) ++ l ∷ []
   chosen_next = ap (filter_map (listed_as ls)) (take_next names k name at) ∙ filter_map-append (listed_as ls) (take k names) (name ∷ []) ∙ ap (λ (o : Option Listed). chosen_in ls (take k names) ++ cons_option o []) listed
 
-  chosen_whole : chosen_in ls names ≡ chosen_in ls (take k names) ++ l ∷ chosen_in ls (drop (k + 1) names)
+  pub chosen_whole : chosen_in ls names ≡ chosen_in ls (take k names) ++ l ∷ chosen_in ls (drop (k + 1) names)
   chosen_whole =
       ap (filter_map (listed_as ls)) (parted names k name at) ∙ filter_map-append (listed_as ls) (take k names) (name ∷ drop (k + 1) names)
       ∙ ap (λ (o : Option Listed). chosen_in ls (take k names) ++ cons_option o (chosen_in ls (drop (k + 1) names))) listed
 
-  pub next_chosen : (start : HostState) → bytes_of start ≡ files → (cs : List Change) (c : Change) (d : Delta) → log_meaning (files l.job) l ≡ Some d → IsStoredFor start c d → IsSelectable start c → AreChosen start (chosen_in ls (take k names)) cs
+  pub next_chosen : (start : HostState) → bytes_of start ≡ files → (cs : List Change) (c : Change) (d : Delta) → log_meaning (files l.job) l ≡ Some d → IsStoredFor start c d → IsOwn start c → AreChosen start (chosen_in ls (take k names)) cs
       → AreChosen start (chosen_in ls (take (k + 1) names)) (cs ++ c ∷ [])
-  next_chosen start same cs c d has stored selectable so_far =
+  next_chosen start same cs c d has stored own so_far =
       let p : Publication = publication_of files l in
       let next : publications_of (bytes_of start) (chosen_in ls (take (k + 1) names)) ≡ was ++ p ∷ [] =
       ap (λ f. publications_of f (chosen_in ls (take (k + 1) names))) same ∙ ap (publications_of files) chosen_next ∙ map-append (publication_of files) (chosen_in ls (take k names)) (l ∷ []) in
@@ -98,7 +102,7 @@ module _ (files : ℕ → List ℕ) (ls : List Listed) (names : List SnapName) (
         whole = ap (find is_damaged) next ∙ find-append is_damaged was (p ∷ []) (ap (find is_damaged) (sym before) ∙ so_far.whole) ∙ ap (λ (o : Option Delta). cond (not (is_some o)) (Some p) None) has;
         stored = subst (AllZip (IsStoredFor start) (cs ++ c ∷ [])) (sym (ap changes_of next ∙ changes))
             (zip_more (IsStoredFor start) cs (changes_of was) c d (subst (λ ps. AllZip (IsStoredFor start) cs (changes_of ps)) before so_far.stored) stored);
-        selectable = all_append (IsSelectable start) cs (c ∷ []) so_far.selectable (selectable, tt);
+        opened = all_append (IsOwn start) cs (c ∷ []) so_far.opened (own, tt);
       }
 
   pub first_damaged : (start : HostState) → bytes_of start ≡ files → (cs : List Change) → log_meaning (files l.job) l ≡ None → AreChosen start (chosen_in ls (take k names)) cs → IsSelection start (chosen_in ls names) (Damaged l.name)
@@ -163,8 +167,8 @@ listed_greatest (l ∷ ls) a is = by (nat_eq l.job a) refl (listed_greatest ls a
     by true here rest is = let same : l.job ≡ a = eqb-true l.job a here in omega (arith, same)
     by false here rest is = omega (arith, rest is)
 
-pub listed_earlier : (ls : List Listed) (number : ℕ) (cs : List Change) → greatest_job ls < number → AllByRecursion (IsListed ls) cs → AllByRecursion (IsEarlier number) cs
-listed_earlier ls number cs below listed = mapped (IsListed ls) (IsEarlier number) cs (λ c is. omega (arith, below, listed_greatest ls c.listed.job is)) listed
+pub listed_earlier : (ls : List Listed) (number : ℕ) (cs : List Change) → greatest_job ls < number → AllByRecursion (IsEntry ls) cs → AllByRecursion (IsEarlier number) cs
+listed_earlier ls number cs below entries = mapped (IsEntry ls) (IsEarlier number) cs (λ c is. omega (arith, below, listed_greatest ls c.listed.job (found_listed c.listed.name ls c.listed is))) entries
 
 pub if_ok_by : {T E : Type 0} (result : Result T E) (P : T → Type 0) (v : T) → IfOk result (λ x. x ≡ v) → P v → IfOk result P
 if_ok_by (Ok x) P v is p = subst P (sym is) p
@@ -176,3 +180,7 @@ IsFine (Err e) = ⊥
 
 pub no_fault : {T E : Type 0} (result : Result T E) (x : T) (e : E) → result ≡ Ok x → result ≡ Err e → ⊥
 no_fault result x e is was = subst IsFine was (subst IsFine (sym is) tt)
+
+pub all_split : {X : Type 0} (P : X → Type 0) (xs ys : List X) → AllByRecursion P (xs ++ ys) → AllByRecursion P xs × AllByRecursion P ys
+all_split P [] ys all = (tt, all)
+all_split P (x ∷ xs) ys all = let rest = all_split P xs ys all.1 in ((all.0, rest.0), rest.1)

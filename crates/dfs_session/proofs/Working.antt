@@ -1,5 +1,5 @@
 -- Lines that leave the session, and the causes of their answers.
-use Rattle.std.proofs.Common.{◌≡◌, ◌∙◌, ℕ, false, Option, Some, Result, Ok, Err, refl, sym, ap, subst, arith}
+use Rattle.std.proofs.Common.{◌≡◌, ◌≢◌, ◌∙◌, ℕ, false, List, [], map, Option, Some, Result, Ok, Err, refl, sym, ap, subst, arith}
 use Rattle.std.specs.Prelude.{IsTrue, IsErrOf, IfOk, IfErr, OnOk}
 use Rattle.std.specs.BTreeMap.{BTreeMap}
 use Rattle.std.specs.Global.{Vec}
@@ -14,13 +14,18 @@ use Rattle.dfs_reply.specs.declared.Reply.{Reply}
 use Rattle.dfs_reply.specs.Text.{text}
 use Rattle.dfs_script.specs.declared.JobWord.{JobWord}
 use Rattle.dfs_job.specs.declared.job.Job.{Job as LiveJob}
+use Rattle.dfs_session.specs.declared.keeping.Kept.{Kept}
 use Rattle.dfs_session.specs.declared.session.Session.{Session as LiveSession}
 use Rattle.dfs_session.specs.Files.{value_on}
 use Rattle.dfs_session.specs.Images.{HoldsEither}
+use Rattle.dfs_session.specs.Kept.{begin_in}
 use Rattle.dfs_session.specs.Session.{Session, Step, Registry, stays}
-use Rattle.dfs_session.specs.Sound.{IsSound, IsLive, AreApart, PlainOf, listed_in}
+use Rattle.dfs_session.specs.Sound.{IsSound, IsSoundInMemory, IsLive, AreApart, NoneHas, PlainOf, jobs_of, listed_in, number_of}
 use Rattle.dfs_session.specs.Stands.{EntryStands, Stands, LeavesValue}
-use Rattle.dfs_session.specs.Worked.{IsWorked, Work, has_refused}
+use Rattle.dfs_session.specs.Worked.{AreNamed, HasNames, IsWorked, Work, has_refused}
+use Rattle.dfs_record.specs.declared.SnapName.{SnapName}
+use Rattle.dfs_session.proofs.Begun.{HasEnded, both_mapped}
+use Rattle.dfs_session.proofs.Lists.{mapped}
 use Rattle.dfs_session.proofs.Values.{stands_value}
 use Rattle.dfs_session.proofs.Images.{read_images}
 use Rattle.dfs_session.proofs.Jobs.{Live}
@@ -53,6 +58,10 @@ memory_cause result none memory = record {
   say_faults = none.say_faults;
 }
 
+pub on_ok_by : {T : Type 0} (result : Result T Fault) (P Q : Type 0) → (P → Q) → OnOk result P → OnOk result Q
+on_ok_by (Ok x) P Q f p = f p
+on_ok_by (Err fault) P Q f p = tt
+
 pub on_ok : {T : Type 0} (result : Result T Fault) (P : Type 0) → P → OnOk result P
 on_ok (Ok x) P p = p
 on_ok (Err fault) P p = tt
@@ -73,8 +82,8 @@ pub worked_by_memory : (before after : HostState) (old new : LiveSession) (work 
     → ((s : Session) → IsTrue before.tells → Stands before old s → value_on after ≡ Some s.registry)
     → ((s : Session) → IsTrue before.tells → Stands before old s → (work.step s).session.registry ≡ s.registry)
     → ((s : Session) → IsTrue before.tells → Stands before old s → LeavesOnly (HoldsEither s.registry (work.step s).session.registry) before after)
-    → IsWorked work before after old new result
-worked_by_memory before after old new work result memory silent none refused settings sound reply stands value same images = record {
+    → (work.quiet old → OnOk result (after.reads ≡ before.reads)) → OnOk result (AreNamed work.names old new) → IsWorked work before after old new result
+worked_by_memory before after old new work result memory silent none refused settings sound reply stands value same images reads names = record {
   sound = sound;
   settings = on_ok result (new.settings ≡ work.settings old.settings) settings;
   reply = reply;
@@ -87,7 +96,21 @@ worked_by_memory before after old new work result memory silent none refused set
   cause = memory_cause result none memory;
   full = full_by result new (λ is_full. it_is_memory result LogFull memory is_full) refused;
   short = λ s tells stood is_full. absurd (it_is_memory result LogFull memory is_full);
+  reads = reads;
+  names = names;
 }
+
+-- where what is kept stays, so do the names
+pub same_names : (old new : LiveSession) (names : Option (List SnapName)) → new.greatest ≡ old.greatest → new.kept ≡ old.kept → IsSoundInMemory new → AreNamed names old new
+same_names old new names greatest same sound =
+    mapped (λ e. IsLive new.greatest (listed_in new) e.1) (λ e. HasNames names old new e.1) (jobs_of new)
+    (λ e live. record { stay = λ was. ap (λ (kept : Kept). map (λ c. c.listed.name) (begin_in kept (number_of e.1))) same; begun = λ below. absurd (omega (arith, below, live.numbered, greatest)) }) sound.jobs
+
+-- where a job ended, the names of the others stay
+pub ended_names : (old new : LiveSession) (names : Option (List SnapName)) (job : ℕ) → new.greatest ≡ old.greatest → HasEnded old.kept new.kept job → AllByRecursion (λ e. job ≢ number_of e.1) (jobs_of new) → IsSoundInMemory new → AreNamed names old new
+ended_names old new names job greatest ended apart sound =
+    both_mapped (λ e. IsLive new.greatest (listed_in new) e.1) (λ e. job ≢ number_of e.1) (λ e. HasNames names old new e.1) (jobs_of new)
+    (λ e live other. record { stay = λ was. ap (map (λ c. c.listed.name)) (ended.others (number_of e.1) (λ is. other (sym is))); begun = λ below. absurd (omega (arith, below, live.numbered, greatest)) }) sound.jobs apart
 
 abbrev Jobs : Type 0
 Jobs = BTreeMap JobWord LiveJob
@@ -103,9 +126,13 @@ same_sound host session jobs same sound = record {
     listed = sound.memory.listed;
     jobs = subst (λ (es : Live). AllByRecursion (λ e. IsLive session.greatest (listed_in session) e.1) es) (sym same) sound.memory.jobs;
     apart = subst AreApart (sym same) sound.memory.apart;
+    kept = sound.memory.kept;
+    entries = sound.memory.entries;
+    ended = subst (λ (es : Live). (job : ℕ) → NoneHas job es → begin_in session.kept job ≡ []) (sym same) sound.memory.ended;
   };
   registry = sound.registry;
   jobs = λ tells. subst (λ (es : Live). AllByRecursion (PlainOf host) es) (sym same) (sound.jobs tells);
+  kept = sound.kept;
 }
 
 same_stands : (host : HostState) (session : LiveSession) (jobs : Jobs) (s : Session) → jobs.entries ≡ session.jobs.entries → Stands host session s → Stands host (record session { jobs = jobs }) s
@@ -120,8 +147,8 @@ same_stands host session jobs s same stands = record {
 -- A line that changes nothing, worked by calls that only read.
 pub stays_worked : (before after : HostState) (session : LiveSession) (jobs : Jobs) (work : Work) (reply : Reply) (result : Result (Vec ℕ) Fault) → jobs.entries ≡ session.jobs.entries → session.settings ≡ work.settings session.settings
     → IsSound before session → OnlyReads before after → NoFault before after → ((s : Session) → IsTrue before.tells → Stands before session s → work.step s ≡ stays s reply)
-    → IfOk result (λ bytes. bytes.items ≡ text reply) → OnlyMemory result → IsWorked work before after session (record session { jobs = jobs }) result
-stays_worked before after session jobs work reply result same given sound only none is says memory =
+    → IfOk result (λ bytes. bytes.items ≡ text reply) → OnlyMemory result → (work.quiet session → OnOk result (after.reads ≡ before.reads)) → IsWorked work before after session (record session { jobs = jobs }) result
+stays_worked before after session jobs work reply result same given sound only none is says memory reads =
     let now_sound = sound_reads before after session only sound in
     let new : LiveSession = record session { jobs = jobs } in
     let new_sound = same_sound after session jobs same now_sound in
@@ -131,10 +158,11 @@ stays_worked before after session jobs work reply result same given sound only n
     (λ s tells stood. subst (λ (t : Step). OnOk result (Stands after new t.session)) (sym (is s tells stood)) (on_ok result (Stands after new s) (same_stands after session jobs s same (stands s tells stood))))
     (λ s tells stood. stands_value after session s (only.tells ∙ tells) now_sound (stands s tells stood))
     (λ s tells stood. ap (λ (t : Step). t.session.registry) (is s tells stood))
-    (λ s tells stood. read_images before after session s (work.step s).session.registry tells sound stood only)
+    (λ s tells stood. read_images before after session s (work.step s).session.registry tells sound stood only) reads (on_ok result (AreNamed work.names session new) (same_names session new work.names refl refl new_sound.memory))
 
 -- the same without a call on the host
 pub stays_in_memory : (host : HostState) (session : LiveSession) (jobs : Jobs) (work : Work) (reply : Reply) (result : Result (Vec ℕ) Fault) → jobs.entries ≡ session.jobs.entries → session.settings ≡ work.settings session.settings → IsSound host session
     → ((s : Session) → IsTrue host.tells → Stands host session s → work.step s ≡ stays s reply) → IfOk result (λ bytes. bytes.items ≡ text reply) → OnlyMemory result
     → IsWorked work host host session (record session { jobs = jobs }) result
-stays_in_memory host session jobs work reply result same given sound is says memory = stays_worked host host session jobs work reply result same given sound (reads_nothing host) (none_yet host) is says memory
+stays_in_memory host session jobs work reply result same given sound is says memory =
+    stays_worked host host session jobs work reply result same given sound (reads_nothing host) (none_yet host) is says memory (λ quiet. on_ok result (host.reads ≡ host.reads) refl)

@@ -1,6 +1,7 @@
 pub mod Session
 pub mod Run
 pub mod Files
+pub mod Kept
 pub mod Sound
 pub mod Stands
 pub mod Worked

@@ -1,6 +1,6 @@
 -- What the working of a line does.
-use Rattle.std.specs.Prelude.{◌≡◌, ◌↔◌, ◌<◌, ℕ, Bool, nat_lt, IsTrue, List, Option, Some, None, Result, Ok, Err, OnOk, IfOk, IsErrOf}
-use Rattle.std.specs.List.{list_any}
+use Rattle.std.specs.Prelude.{◌≡◌, ◌↔◌, ◌≤◌, ◌<◌, ℕ, Bool, nat_lt, IsTrue, List, map, Option, Some, None, Result, Ok, Err, OnOk, IfOk, IsErrOf}
+use Rattle.std.specs.List.{AllByRecursion, list_all, list_any}
 use Rattle.std.specs.Global.{Vec}
 use Rattle.dfs_host.specs.Fault.{HasFaultCause}
 use Rattle.dfs_host.specs.Host.{HostState, Told, LeavesOnly, SaysNothing}
@@ -15,6 +15,7 @@ use Rattle.dfs_session.specs.declared.session.Session.{Session as LiveSession}
 use Rattle.dfs_session.specs.Files.{value_on}
 use Rattle.dfs_session.specs.Images.{HoldsEither}
 use Rattle.dfs_record.specs.declared.SnapName.{SnapName}
+use Rattle.dfs_record.specs.Delta.{Delta}
 use Rattle.dfs_path.specs.declared.Op.{Op}
 use Rattle.dfs_script.specs.declared.JobWord.{JobWord}
 use Rattle.dfs_script.specs.declared.Line.{Line}
@@ -23,9 +24,12 @@ use Rattle.dfs_script.specs.declared.LineFault.{LineFault}
 use Rattle.dfs_script.specs.declared.Setting.{Setting}
 use Rattle.dfs_script.specs.Line.{meaning}
 use Rattle.dfs_job.specs.declared.settings.Settings.{Settings}
+use Rattle.dfs_job.specs.declared.job.Job.{Job as LiveJob}
 use Rattle.dfs_job.specs.Job.{Job, after, does, need}
-use Rattle.dfs_session.specs.Session.{Session, Step, after_command, after_meaning, flushes, live_job, of_job, operates_for, publishes_anew, publishes_for, sets, with_setting}
-use Rattle.dfs_session.specs.Sound.{IsSound, jobs_of}
+use Rattle.dfs_session.specs.Selected.{is_selected}
+use Rattle.dfs_session.specs.Session.{Session, Step, after_command, after_meaning, begins, begins_over, flushes, live_job, of_job, operates_for, publishes_anew, publishes_for, sets, with_setting}
+use Rattle.dfs_session.specs.Kept.{begin_in}
+use Rattle.dfs_session.specs.Sound.{IsSound, jobs_of, number_of}
 use Rattle.dfs_session.specs.Stands.{Stands, LeavesValue}
 
 -- the answer of an opening, by what the registry's file stands for
@@ -42,18 +46,33 @@ has_refused session = list_any (λ e. nat_lt 0 e.1.layers.log.refused) (jobs_of 
 
 -- ---- what a line works
 
--- What a line does, the job that it works, with what it makes of that job, and what it leaves of the settings.
-pub record Work : Type 0 where
+-- What a line does, the job that it works, with what it makes of that job, what it leaves of the settings, the sessions of which it
+-- reads nothing, and the names that a job selects which it begins.
+pub record Work : Type 1 where
   pub step : Session → Step
   pub job : Session → Option Job
   pub settings : Settings → Settings
+  pub quiet : LiveSession → Type 0
+  pub names : Option (List SnapName)
 
 -- a line that no log is written for and that leaves the settings
 abbrev pub plain : (Session → Step) → Work
-plain does = record { step = does; job = λ s. None; settings = λ t. t }
+plain does = record { step = does; job = λ s. None; settings = λ t. t; quiet = λ session. ⊥; names = None }
+
+-- each of the names stands in the begin of a live job
+abbrev pub AreSelected : List SnapName → LiveSession → Type 0
+AreSelected names session = IsTrue (list_all (is_selected session) names)
+
+-- a begin reads nothing where each of its names was selected before
+abbrev pub beginning : JobWord → List SnapName → Work
+beginning w names = record (plain (λ s. begins s w names)) { quiet = λ session. AreSelected names session; names = Some names }
+
+-- the same over what was selected, which reads nothing
+abbrev pub beginning_over : JobWord → List SnapName → List Delta → Work
+beginning_over w names basis = record (plain (λ s. begins_over s w basis)) { quiet = λ session. Unit {0}; names = Some names }
 
 abbrev pub setting : Setting → ℕ → Work
-setting what value = record { step = λ s. sets s what value; job = λ s. None; settings = with_setting what value }
+setting what value = record (plain (λ s. sets s what value)) { settings = with_setting what value }
 
 -- the job after an operation
 abbrev pub with_op : Op → Option Job → Option Job
@@ -61,17 +80,17 @@ with_op op None = None
 with_op op (Some j) = Some (after j (does j op))
 
 abbrev pub operating : JobWord → Op → Work
-operating w op = record { step = λ s. operates_for s w op; job = λ s. with_op op (live_job s w); settings = λ t. t }
+operating w op = record (plain (λ s. operates_for s w op)) { job = λ s. with_op op (live_job s w) }
 
 abbrev pub flushing : JobWord → Work
-flushing w = record { step = λ s. flushes s w; job = λ s. live_job s w; settings = λ t. t }
+flushing w = record (plain (λ s. flushes s w)) { job = λ s. live_job s w }
 
 abbrev pub publishing : JobWord → SnapName → Work
-publishing w name = record { step = λ s. publishes_for s w name; job = λ s. live_job s w; settings = λ t. t }
+publishing w name = record (plain (λ s. publishes_for s w name)) { job = λ s. live_job s w }
 
 -- the same under a new name
 abbrev pub publishing_anew : JobWord → SnapName → Work
-publishing_anew w name = record { step = λ s. of_job s w (λ j. publishes_anew s w j name); job = λ s. live_job s w; settings = λ t. t }
+publishing_anew w name = record (plain (λ s. of_job s w (λ j. publishes_anew s w j name))) { job = λ s. live_job s w }
 
 -- the job that a command works
 abbrev pub job_of : Session → Line → Option Job
@@ -97,8 +116,32 @@ settings_of t (Stats w) = t
 settings_of t (Publish w name) = t
 settings_of t (End w) = t
 
+-- the sessions of which a command reads nothing
+abbrev pub IsQuiet : Line → LiveSession → Type 0
+IsQuiet Nothing session = ⊥
+IsQuiet (Set what value) session = ⊥
+IsQuiet Snapshots session = ⊥
+IsQuiet (Begin w names) session = AreSelected names session
+IsQuiet (Space w op) session = ⊥
+IsQuiet (Flush w) session = ⊥
+IsQuiet (Stats w) session = ⊥
+IsQuiet (Publish w name) session = ⊥
+IsQuiet (End w) session = ⊥
+
+-- the names that a job selects which a command begins
+abbrev pub names_of : Line → Option (List SnapName)
+names_of Nothing = None
+names_of (Set what value) = None
+names_of Snapshots = None
+names_of (Begin w names) = Some names
+names_of (Space w op) = None
+names_of (Flush w) = None
+names_of (Stats w) = None
+names_of (Publish w name) = None
+names_of (End w) = None
+
 abbrev pub of_command : Line → Work
-of_command line = record { step = λ s. after_command s line; job = λ s. job_of s line; settings = λ t. settings_of t line }
+of_command line = record { step = λ s. after_command s line; job = λ s. job_of s line; settings = λ t. settings_of t line; quiet = λ session. IsQuiet line session; names = names_of line }
 
 -- the job that a line works, with what it makes of that job
 abbrev pub job_by : Session → Result Line LineFault → Option Job
@@ -110,8 +153,16 @@ abbrev pub settings_by : Settings → Result Line LineFault → Settings
 settings_by t (Ok line) = settings_of t line
 settings_by t (Err fault) = t
 
+abbrev pub quiet_by : Result Line LineFault → LiveSession → Type 0
+quiet_by (Ok line) session = IsQuiet line session
+quiet_by (Err fault) session = ⊥
+
+abbrev pub names_by : Result Line LineFault → Option (List SnapName)
+names_by (Ok line) = names_of line
+names_by (Err fault) = None
+
 abbrev pub of_meaning : Result Line LineFault → Work
-of_meaning line = record { step = λ s. after_meaning s line; job = λ s. job_by s line; settings = λ t. settings_by t line }
+of_meaning line = record { step = λ s. after_meaning s line; job = λ s. job_by s line; settings = λ t. settings_by t line; quiet = λ session. quiet_by line session; names = names_by line }
 
 abbrev pub of_line : List ℕ → Work
 of_line line = of_meaning (meaning line)
@@ -120,6 +171,18 @@ of_line line = of_meaning (meaning line)
 abbrev pub IsShort : Option Job → Type 0
 IsShort None = ⊥
 IsShort (Some j) = j.settings.log_bytes < need j
+
+-- the names that a job's begin selected
+abbrev pub selected_names : LiveSession → LiveJob → List SnapName
+selected_names session job = map (λ c. c.listed.name) (begin_in session.kept (number_of job))
+
+-- A job that lived before keeps the names of its begin, and one that was begun has these.
+pub record HasNames (names : Option (List SnapName)) (old new : LiveSession) (job : LiveJob) : Type 0 where
+  pub stay : number_of job ≤ old.greatest → selected_names new job ≡ selected_names old job
+  pub begun : old.greatest < number_of job → names ≡ Some (selected_names new job)
+
+abbrev pub AreNamed : Option (List SnapName) → LiveSession → LiveSession → Type 0
+AreNamed names old new = AllByRecursion (λ e. HasNames names old new e.1) (jobs_of new)
 
 -- The session worked as a line says, on every host on which it stood and for every session for which it stood there.
 pub record IsWorked (work : Work) (before now : HostState) (old new : LiveSession) (result : Result (Vec ℕ) Fault) : Type 0 where
@@ -133,6 +196,8 @@ pub record IsWorked (work : Work) (before now : HostState) (old new : LiveSessio
   pub cause : HasFaultCause before now result
   pub full : IsErrOf result LogFull ↔ IsTrue (has_refused new)
   pub short : (s : Session) → Told before (Stands before old s → IsErrOf result LogFull → IsShort (work.job s))
+  pub reads : work.quiet old → OnOk result (now.reads ≡ before.reads)
+  pub names : OnOk result (AreNamed work.names old new)
 
 -- the same of a line that no call on the host was made for
 abbrev pub IsWorkedInMemory : Work → LiveSession → LiveSession → Result (Vec ℕ) Fault → Type 0

@@ -20,11 +20,11 @@ impl Session {
     ghost use Rattle.std.specs.List.{AllByRecursion, AllZip, list_all};
     ghost use Rattle.dfs_host.specs.Host.{Told};
     ghost use Rattle.dfs_record.specs.Delta.{Delta};
-    ghost use Rattle.dfs_job.specs.Stands.{IsSelectable, IsStoredFor};
+    ghost use Rattle.dfs_job.specs.Stands.{IsStoredFor};
+    ghost use Rattle.dfs_session.specs.Kept.{IsOwn};
     ghost use Rattle.dfs_session.specs.Selected.{is_listed};
-    ghost use Rattle.dfs_session.specs.Session.{begins, begins_over};
-    ghost use Rattle.dfs_session.specs.Sound.{IsListed, IsSound, listed_in, jobs_of, live_in};
-    ghost use Rattle.dfs_session.specs.Worked.{IsWorked, plain};
+    ghost use Rattle.dfs_session.specs.Sound.{IsEntry, IsSound, listed_in, jobs_of, live_in};
+    ghost use Rattle.dfs_session.specs.Worked.{IsWorked, beginning, beginning_over};
 
     /// Begins a job over the publications of the names.
     pub(crate) fn begin<H: Host>(
@@ -34,7 +34,7 @@ impl Session {
         names: &Names,
     ) -> Result<Vec<u8>, Fault>
         requires { IsSound (H.state host.old) self.old }
-        ensures { IsWorked (plain (λ s. begins s word names.now)) (H.state host.old) (H.state host.new) self.old self.new result }
+        ensures { IsWorked (beginning word names.now) (H.state host.old) (H.state host.new) self.old self.new result }
     {
         if self.jobs.contains_key(&word) {
             return text_of(self.alloc, &Reply::Error(Word::LiveJob));
@@ -45,7 +45,7 @@ impl Session {
         if !self.lists(names) {
             return text_of(self.alloc, &Reply::Error(Word::NoSnap));
         }
-        match select(self.alloc, host, &self.registry, names)? {
+        match select(self.alloc, host, &self.registry, &self.kept, names)? {
             Selection::Changes(changes) => self.begin_over(host, word, changes),
             Selection::Damaged(name) => text_of(self.alloc, &Reply::Damaged(name)),
         }
@@ -78,16 +78,19 @@ impl Session {
         changes: Vec<Rc<Change>>,
     ) -> Result<Vec<u8>, Fault>
         requires sound { IsSound (H.state host.old) self.old }
-        requires listed { AllByRecursion (IsListed (listed_in self.old)) (map (λ c. c.value) changes.items) }
-        requires selectable { Told (H.state host.old) (AllByRecursion (IsSelectable (H.state host.old)) (map (λ c. c.value) changes.items)) }
+        requires entries { AllByRecursion (IsEntry (listed_in self.old)) (map (λ c. c.value) changes.items) }
+        requires opened { Told (H.state host.old) (AllByRecursion (IsOwn (H.state host.old)) (map (λ c. c.value) changes.items)) }
         requires last { self.old.greatest < 4294967294 }
         requires absent { live_in self.old word ≡ None }
 
         ensures { (basis : List Delta) → Told (H.state host.old) (AllZip (IsStoredFor (H.state host.old)) (map (λ c. c.value) changes.items) basis)
-            → IsWorked (plain (λ s. begins_over s word basis)) (H.state host.old) (H.state host.new) self.old self.new result }
+            → IsWorked (beginning_over word (map (λ c. c.listed.name) (map (λ c. c.value) changes.items)) basis) (H.state host.old) (H.state host.new) self.old self.new result }
     {
         let number = self.greatest + 1;
         let reply = text_of(self.alloc, &Reply::Job(number))?;
+        if self.kept.keep(self.alloc, number, &changes).is_err() {
+            return Err(Fault::NoMemory);
+        }
         let job = Job::begin(self.alloc, host, number, changes, self.settings)?;
         match self.jobs.insert(word, job) {
             Ok(_) => {

@@ -131,9 +131,10 @@ impl Session {
         requires { IsSoundInMemory self.old }
         ensures { IsWorkedInMemory (plain (λ s. ends s word.now)) self.old self.new result }
     {
-        if self.jobs.remove(word).is_none() {
+        let Some(job) = self.jobs.remove(word) else {
             return text_of(self.alloc, &Reply::Error(Word::NoJob));
-        }
+        };
+        self.kept.end(job.ids.job);
         text_of(self.alloc, &Reply::Ok)
     }
 }

@@ -8,6 +8,7 @@
 
 mod begin;
 mod commands;
+mod keeping;
 mod publish;
 mod selection;
 mod session;

@@ -121,6 +121,7 @@ impl Session {
         };
         list(host, &mut self.registry, listed)?;
         let _ = self.jobs.remove(word);
+        self.kept.end(number);
         Ok(reply)
     }
 }

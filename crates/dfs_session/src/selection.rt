@@ -1,12 +1,15 @@
 //! What a job selects: the change sets of publications, in order.
 
 ghost use Rattle.std.specs.Prelude.{◌≡◌, ◌++◌, ◌∷◌, [], ℕ, IfOk, IfErr, IfNone, IfSome, OnOk, IsErrOf, IsTrue, None};
-ghost use Rattle.std.specs.List.{list_all};
+ghost use Rattle.std.specs.List.{AllByRecursion, list_all};
 ghost use Rattle.dfs_host.specs.Fault.{HasFaultCause};
 ghost use Rattle.dfs_host.specs.Host.{Told, OnlyReads, bytes_of};
 ghost use Rattle.dfs_change.specs.Meant.{log_meaning};
-ghost use Rattle.dfs_session.specs.Selected.{AreListed, IsOpened, IsSelection, chosen_in, is_listed};
+ghost use Rattle.dfs_session.specs.Kept.{EachBegun, IsIndexed, IsKept, IsOpened, IsOwn};
+ghost use Rattle.dfs_session.specs.Selected.{AreEntries, AreNamedBy, IsSelection, chosen_in, is_listed};
+ghost use Rattle.dfs_session.specs.Sound.{IsEntry};
 
+use crate::keeping::Kept;
 use dfs_change::Change;
 use dfs_host::{Fault, Host};
 use dfs_record::SnapName;
@@ -23,33 +26,70 @@ pub enum Selection {
     Damaged(SnapName),
 }
 
-/// Selects the publications of the names, in the order of the names. Each of their logs is read once.
+/// Selects the publications of the names, in the order of the names. The log of each is read once, unless its change is kept.
 pub fn select<H: Host>(
     alloc: Global,
     host: &mut H,
     registry: &Registry,
+    kept: &Kept,
     names: &Names,
 ) -> Result<Selection, Fault>
-    requires { IsTrue (list_all (is_listed registry.now.entries) names.now) }
+    requires names { IsTrue (list_all (is_listed registry.now.entries) names.now) }
+    requires kept { IsIndexed kept.now }
+    requires entries { EachBegun (IsEntry registry.now.entries) kept.now }
+    requires opened { Told (H.state host.old) (EachBegun (IsOwn (H.state host.old)) kept.now) }
 
     ensures selection { Told (H.state host.old) (IfOk result (IsSelection (H.state host.old) (chosen_in registry.now.entries names.now))) }
-    ensures listed { IfOk result (AreListed registry.now.entries) }
+    ensures entries { IfOk result (AreEntries registry.now.entries) }
+    ensures names { IfOk result (AreNamedBy names.now) }
+    ensures reads { AllByRecursion (λ l. IsKept kept.now l.job) (chosen_in registry.now.entries names.now) → OnOk result ((H.state host.new).reads ≡ (H.state host.old).reads) }
     ensures only { OnlyReads (H.state host.old) (H.state host.new) }
     ensures cause { HasFaultCause (H.state host.old) (H.state host.new) result }
     ensures never_full { IsErrOf result Fault.LogFull → ⊥ }
     ensures never_changed { (file at : ℕ) → IsErrOf result (Fault.Changed file at) → ⊥ }
 {
+    // It says that no two publications have one job.
+    let _ = registry.count();
     let mut changes = Vec::new(alloc);
     for index in 0..names.len() {
         let Some(listed) = registry.find(names.get(index)) else {
             unreachable!();
         };
-        match open(alloc, host, listed)? {
+        match take(alloc, host, kept, listed)? {
             Some(change) => add(&mut changes, change)?,
             None => return damaged(alloc, &listed.name),
         }
     }
     Ok(Selection::Changes(changes))
+}
+
+// The change set of an entry as it is kept, or else as `open` answers it.
+fn take<H: Host>(
+    alloc: Global,
+    host: &mut H,
+    kept: &Kept,
+    listed: &Listed,
+) -> Result<Option<Rc<Change>>, Fault>
+    requires kept { IsIndexed kept.now }
+    requires own { EachBegun (λ c. c.listed.job ≡ listed.now.job → c.listed ≡ listed.now) kept.now }
+    requires opened { Told (H.state host.old) (EachBegun (IsOwn (H.state host.old)) kept.now) }
+
+    ensures opened { Told (H.state host.old) (IfOk result (λ found. IfSome found (λ change. IsOpened (H.state host.old) listed.now change.value))) }
+    ensures damaged { Told (H.state host.old) (IfOk result (λ found. IfNone found (log_meaning (bytes_of (H.state host.old) listed.now.job) listed.now ≡ None))) }
+    ensures listed { IfOk result (λ found. IfSome found (λ change. change.value.listed ≡ listed.now)) }
+    ensures reads { IsKept kept.now listed.now.job → (H.state host.new).reads ≡ (H.state host.old).reads }
+    ensures only { OnlyReads (H.state host.old) (H.state host.new) }
+    ensures cause { HasFaultCause (H.state host.old) (H.state host.new) result }
+    ensures never_full { IsErrOf result Fault.LogFull → ⊥ }
+    ensures never_changed { (file at : ℕ) → IsErrOf result (Fault.Changed file at) → ⊥ }
+{
+    match kept.find(listed.job) {
+        Some(change) => match change.clone() {
+            Ok(change) => Ok(Some(change)),
+            Err(_) => Err(Fault::NoMemory),
+        },
+        None => open(alloc, host, listed),
+    }
 }
 
 // The change set of an entry, and `None` where its log is damaged.

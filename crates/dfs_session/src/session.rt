@@ -4,6 +4,7 @@ ghost use Rattle.std.specs.Prelude.{◌≡◌, ◌≤◌, IfOk, IfErr, OnOk};
 ghost use Rattle.dfs_registry.specs.Body.{greatest_job};
 ghost use Rattle.dfs_reply.specs.Text.{text};
 
+use crate::keeping::Kept;
 use dfs_host::{Fault, Host};
 use dfs_job::{Job, Settings};
 use dfs_registry::{RegFault, Registry};
@@ -23,6 +24,8 @@ pub struct Session {
     pub greatest: u32,
     /// The live jobs by their words, at most 64.
     pub jobs: BTreeMap<JobWord, Job>,
+    /// What the begins of the live jobs selected.
+    pub kept: Kept,
     pub spent: bool,
 }
 
@@ -50,7 +53,8 @@ pub fn text_of(alloc: Global, reply: &Reply) -> Result<Vec<u8>, Fault>
 }
 
 impl Session {
-    ghost use Rattle.std.specs.Prelude.{◌≡◌, ◌↔◌, ◌<◌, ℕ, List, Some, IfOk, IfErr, OnOk, OnErr, IsTrue, IsErrOf};
+    ghost use Rattle.std.specs.Prelude.{◌≡◌, ◌↔◌, ◌<◌, ℕ, List, Some, Ok, IfOk, IfErr, OnOk, OnErr, IsTrue, IsErrOf};
+    ghost use Rattle.std.specs.List.{list_all};
     ghost use Rattle.dfs_host.specs.Disk.{IsSettled};
     ghost use Rattle.dfs_host.specs.Fault.{HasFaultCause};
     ghost use Rattle.dfs_host.specs.Host.{HostState, Told, LeavesOnly, ChangesOnly, OnlyReads, SaysNothing, bytes_of};
@@ -61,11 +65,15 @@ impl Session {
     ghost use Rattle.dfs_session.specs.Files.{value_on};
     ghost use Rattle.dfs_session.specs.Images.{Holds, HoldsEither, HoldsNow};
     ghost use Rattle.dfs_session.specs.Session.{Session as PlainSession, Registry as Publications, opened_with, step as step_of};
+    ghost use Rattle.dfs_record.specs.declared.SnapName.{SnapName};
     ghost use Rattle.dfs_script.specs.Line.{meaning};
+    ghost use Rattle.dfs_script.specs.declared.JobWord.{JobWord as AJobWord};
+    ghost use Rattle.dfs_script.specs.declared.Line.TheVariants.{Begin};
+    ghost use Rattle.dfs_session.specs.Selected.{is_selected};
     ghost use Rattle.dfs_session.specs.Sound.{IsSound};
     ghost use Rattle.dfs_job.specs.Stands.{AreSettings};
     ghost use Rattle.dfs_session.specs.Stands.{Stands, LeavesValue};
-    ghost use Rattle.dfs_session.specs.Worked.{OpensAs, IsShort, IsWorked, has_refused, job_by, of_command, of_line, settings_by};
+    ghost use Rattle.dfs_session.specs.Worked.{AreNamed, OpensAs, IsShort, IsWorked, has_refused, job_by, names_by, of_command, of_line, settings_by};
 
     /// Opens the registry of a host. Jobs that begin are given the settings.
     pub fn open<H: Host>(
@@ -102,6 +110,7 @@ impl Session {
             settings,
             greatest,
             jobs: BTreeMap::new(alloc),
+            kept: Kept::new(alloc),
             spent: false,
         })
     }
@@ -128,6 +137,10 @@ impl Session {
         // for what that job selected and made, this line counted.
         ensures full { IsErrOf result Fault.LogFull ↔ IsTrue (has_refused self.new) }
         ensures short { (s : PlainSession) → Told (H.state host.old) (Stands (H.state host.old) self.old s → IsErrOf result Fault.LogFull → IsShort (job_by s (meaning line.now))) }
+        // Each live job keeps the names of its begin, as long as it lives.
+        ensures names { OnOk result (AreNamed (names_by (meaning line.now)) self.old self.new) }
+        // A begin reads nothing where each of its names stands in the begin of a live job.
+        ensures kept { (word : AJobWord) (names : List SnapName) → meaning line.now ≡ Ok (Begin word names) → IsTrue (list_all (is_selected self.old) names) → OnOk result ((H.state host.new).reads ≡ (H.state host.old).reads) }
         ensures spent { OnErr result (IsTrue self.new.spent) }
     {
         match self.work(host, line) {

@@ -1,24 +1,29 @@
-use Rattle.std.proofs.Common.{◌≡◌, ◌∙◌, ◌+◌, ◌++◌, ◌∷◌, [], ℕ, List, Some, None, Ok, map, refl, sym, ap, subst}
-use Rattle.std.specs.Prelude.{take}
+use Rattle.std.proofs.Common.{◌≡◌, ◌∙◌, ◌+◌, ◌++◌, ◌∷◌, [], ℕ, List, Some, None, Ok, drop, map, refl, sym, ap, subst, arith}
+use Rattle.std.specs.Prelude.{find, take}
 use Rattle.std.specs.List.{AllByRecursion}
-use Rattle.std.proofs.lemmas.List.{map-append}
+use Rattle.std.proofs.lemmas.List.{map-append, take_all}
 use Rattle.dfs_host.specs.Disk.{Disk}
 use Rattle.dfs_host.specs.Host.{bytes_of}
 use Rattle.dfs_host.proofs.Causes.{none_by}
-use Rattle.dfs_host.proofs.Moments.{reads_go_on}
+use Rattle.dfs_host.proofs.Moments.{reads_go_on, same_bytes}
 use Rattle.dfs_table.proofs.Stays.{all_append}
+use Rattle.dfs_record.specs.declared.SnapName.{SnapName}
 use Rattle.dfs_change.specs.declared.change.Change.{Change}
 use Rattle.dfs_change.specs.Meant.{log_meaning}
 use Rattle.dfs_registry.specs.declared.listed.Listed.{Listed}
-use Rattle.dfs_registry.specs.Body.{lists_job}
+use Rattle.dfs_registry.specs.Body.{has_name}
 use Rattle.dfs_session.specs.declared.selection.Selection.TheVariants.{Damaged}
 use Rattle.dfs_session.specs.Selected.{AreChosen, IsSelection, chosen_in}
-use Rattle.dfs_session.specs.Sound.{IsListed}
-use Rattle.dfs_session.proofs.Selecting.{first_damaged, found_listed, if_none_at, if_ok_by, if_some_at, must_be_listed, next_chosen, no_fault, opened_before}
+use Rattle.dfs_session.specs.Kept.{IsKept, IsOpened, IsOwn}
+use Rattle.dfs_session.specs.Sound.{IsEntry}
+use Rattle.dfs_session.proofs.Begun.{each_mapped, listed_name, one_entry, opened_still, own_entry}
+use Rattle.dfs_session.proofs.Selecting.{all_split, chosen_next, chosen_whole, first_damaged, if_none_at, if_ok_by, if_some_at, must_be_listed, next_chosen, no_fault, opened_before}
+use Rattle.dfs_session.proofs.Lists.{take_next}
+use Rattle.dfs_session.proofs.Working.{on_ok}
 use Rattle.dfs_session.proofs.selection.select.Goals as goal
 
 pub unreachable-requires : goal.unreachable-requires
-unreachable-requires g c = must_be_listed c.args.registry.now.entries c.args.names.now c.loop-index.index c.get.result.now c.get.ensures.value c.requires (sym c.in_default.ensures)
+unreachable-requires g c = must_be_listed c.args.registry.now.entries c.args.names.now c.loop-index.index c.get.result.now c.get.ensures.value c.requires.names (sym c.in_default.ensures)
 
 pub returns-in-None-clause-selection : goal.returns-in-None-clause-selection
 returns-in-None-clause-selection g c = λ tells.
@@ -46,14 +51,55 @@ loop-index-preserved g c =
     let cs : List Change = map (λ c. c.value) c.loop-index.changes.items in
     let more : map (λ c. c.value) c.add.new.changes.items ≡ cs ++ change.value ∷ [] =
     ap (map (λ c. c.value)) c.in_ok-add-in-Some-2.ensures.added ∙ map-append (λ c. c.value) c.loop-index.changes.items (change ∷ []) in
+    let registry_entry = own_entry c.get.result.now ls listed (sym c.in-Some.ensures) in
     let same : change.value.listed ≡ listed = if_some_at found _ change c.in_ok-change.ensures.listed c.in-Some-2.is in
     record {
       chosen = λ tells.
           let of = opened_before start (g.H.Host.state c.loop-index.host) so_far.only tells listed change.value (if_some_at found _ change (c.in_ok-change.ensures.opened (so_far.only.tells ∙ tells)) c.in-Some-2.is) in
           subst (AreChosen start (chosen_in ls (take (index + 1) names))) (sym more)
-          (next_chosen (bytes_of start) ls names index c.get.result.now listed c.get.ensures.value (sym c.in-Some.ensures) start refl cs change.value of.changes of.meant of.stored of.selectable (so_far.chosen tells));
-      listed = subst (AllByRecursion (IsListed ls)) (sym more)
-          (all_append (IsListed ls) cs (change.value ∷ []) so_far.listed (ap (λ (l : Listed). lists_job ls l.job) same ∙ found_listed c.get.result.now ls listed (sym c.in-Some.ensures), tt));
+          (next_chosen (bytes_of start) ls names index c.get.result.now listed c.get.ensures.value (sym c.in-Some.ensures) start refl cs change.value of.changes of.meant of.stored
+          (subst (λ (l : Listed). IsOpened start l change.value) (sym same) of) (so_far.chosen tells));
+      entries = subst (AllByRecursion (IsEntry ls)) (sym more)
+          (all_append (IsEntry ls) cs (change.value ∷ []) so_far.entries (subst (λ (l : Listed). find (has_name l.name) ls ≡ Some l) (sym same) registry_entry, tt));
       only = reads_go_on so_far.only c.in_ok-change.ensures.only;
       none = none_by so_far.none c.in_ok-change.ensures.cause (λ is. no_fault (Ok found) found _ refl is);
+      names = ap (map (λ d. d.listed.name)) more ∙ map-append (λ d. d.listed.name) cs (change.value ∷ [])
+          ∙ (λ i. so_far.names i ++ (ap (λ (l : Listed). l.name) same ∙ sym (listed_name c.get.result.now ls listed (sym c.in-Some.ensures))) i ∷ []) ∙ sym (take_next names index c.get.result.now c.get.ensures.value);
+      reads = λ kept.
+          let parts = all_split (λ l. IsKept c.args.kept.now l.job) (chosen_in ls (take index names)) (listed ∷ [])
+          (subst (AllByRecursion (λ l. IsKept c.args.kept.now l.job)) (chosen_next (bytes_of start) ls names index c.get.result.now listed c.get.ensures.value (sym c.in-Some.ensures)) kept) in
+          c.in_ok-change.ensures.reads parts.1.0 ∙ so_far.reads parts.0;
     }
+
+pub returns-in-None-clause-reads : goal.returns-in-None-clause-reads
+returns-in-None-clause-reads g c = λ kept.
+    let listed = c.in-Some.listed.now in
+    let ls = c.args.registry.now.entries in
+    let names = c.args.names.now in
+    let index = c.loop-index.index in
+    let parts = all_split (λ l. IsKept c.args.kept.now l.job) (chosen_in ls (take index names)) (listed ∷ chosen_in ls (drop (index + 1) names))
+    (subst (AllByRecursion (λ l. IsKept c.args.kept.now l.job)) (chosen_whole (bytes_of (g.H.Host.state c.args.host.now)) ls names index c.get.result.now listed c.get.ensures.value (sym c.in-Some.ensures)) kept) in
+    on_ok c.damaged.result _ (c.in_ok-change.ensures.reads parts.1.0 ∙ c.loop-index.invariant.reads parts.0)
+
+pub take-requires-clause-own : goal.take-requires-clause-own
+take-requires-clause-own g c =
+    let ls = c.args.registry.now.entries in
+    let listed = c.in-Some.listed.now in
+    each_mapped (IsEntry ls) (λ d. d.listed.job ≡ listed.job → d.listed ≡ listed) c.args.kept.now
+    (λ d is same. one_entry ls listed d.listed c.count.ensures.listing (own_entry c.get.result.now ls listed (sym c.in-Some.ensures)) is same) c.requires.entries
+
+pub take-requires-clause-opened : goal.take-requires-clause-opened
+take-requires-clause-opened g c = λ tells.
+    let start = g.H.Host.state c.args.host.now in
+    let now = g.H.Host.state c.loop-index.host in
+    let only = c.loop-index.invariant.only in
+    let told = sym only.tells ∙ tells in
+    each_mapped (IsOwn start) (IsOwn now) c.args.kept.now (λ d is. opened_still start now d (same_bytes only told d.listed.job) is) (c.requires.opened told)
+
+pub returns-clause-names : goal.returns-clause-names
+returns-clause-names g c = c.loop-index.invariant.names ∙ take_all c.loop-index.index c.args.names.now (omega (arith, c.len-index-end.ensures.length))
+
+pub returns-clause-reads : goal.returns-clause-reads
+returns-clause-reads g c = λ kept.
+    c.loop-index.invariant.reads
+    (subst (λ (names : List SnapName). AllByRecursion (λ l. IsKept c.args.kept.now l.job) (chosen_in c.args.registry.now.entries names)) (sym (take_all c.loop-index.index c.args.names.now (omega (arith, c.len-index-end.ensures.length)))) kept)

@@ -15,14 +15,15 @@ use Rattle.dfs_reply.specs.declared.Word.TheVariants as word
 use Rattle.dfs_session.specs.declared.selection.Selection.{Selection}
 use Rattle.dfs_session.specs.declared.selection.Selection.TheVariants.{Changes, Damaged}
 use Rattle.dfs_session.specs.Files.{publications_of}
-use Rattle.dfs_session.specs.Selected.{AreChosen, AreListed, is_listed, chosen_in, IsSelection}
-use Rattle.dfs_session.specs.Session.{begins, begins_over, changes_of, stays}
+use Rattle.dfs_session.specs.Selected.{AreChosen, AreEntries, AreNamedBy, is_listed, chosen_in, IsSelection}
+use Rattle.dfs_session.specs.Session.{changes_of, stays}
 use Rattle.dfs_session.specs.Sound.{jobs_of, listed_in}
-use Rattle.dfs_session.specs.Worked.{IsWorked, plain}
+use Rattle.dfs_session.specs.Worked.{IsWorked, beginning, beginning_over}
+use Rattle.dfs_session.proofs.Begun.{names_kept}
 use Rattle.dfs_session.proofs.Choosing.{begins_as, begins_chosen, after_reads, read_fault_worked}
-use Rattle.dfs_session.proofs.Kept.{all_selectable, sound_reads, zip_read}
+use Rattle.dfs_session.proofs.Kept.{all_opened, sound_reads, zip_read}
 use Rattle.dfs_session.proofs.Selecting.{no_fault}
-use Rattle.dfs_session.proofs.Working.{stays_in_memory, stays_worked}
+use Rattle.dfs_session.proofs.Working.{on_ok, on_ok_by, stays_in_memory, stays_worked}
 use Rattle.dfs_session.proofs.session.Session.begin.Goals as goal
 
 pub returns-then-contains_key : goal.returns-then-contains_key
@@ -30,7 +31,7 @@ returns-then-contains_key g c =
     let session = c.args.self.now in
     let host = g.H.Host.state c.args.host.now in
     let names = c.args.names.now in
-    stays_in_memory host session session.jobs (plain (λ s. begins s c.args.word names)) (Error word.LiveJob) c.text_of.result refl refl c.requires
+    stays_in_memory host session session.jobs (beginning c.args.word names) (Error word.LiveJob) c.text_of.result refl refl c.requires
     (λ s tells stands. begins_as host session s c.args.word names stands true (nat_le 64 (length (jobs_of session)) || nat_le 4294967294 session.greatest) (list_all (is_listed (listed_in session)) names) c.if-contains_key.ensures refl refl)
     c.text_of.ensures.text c.text_of.ensures.memory
 
@@ -39,7 +40,7 @@ returns-then-is_full g c =
     let session = c.args.self.now in
     let host = g.H.Host.state c.args.host.now in
     let names = c.args.names.now in
-    stays_in_memory host session session.jobs (plain (λ s. begins s c.args.word names)) (Error word.Full) c.text_of-then-is_full.result refl refl c.requires
+    stays_in_memory host session session.jobs (beginning c.args.word names) (Error word.Full) c.text_of-then-is_full.result refl refl c.requires
     (λ s tells stands. begins_as host session s c.args.word names stands false true (list_all (is_listed (listed_in session)) names) c.if-contains_key.ensures c.if-is_full.ensures refl)
     c.text_of-then-is_full.ensures.text c.text_of-then-is_full.ensures.memory
 
@@ -48,7 +49,7 @@ returns-then-not-lists g c =
     let session = c.args.self.now in
     let host = g.H.Host.state c.args.host.now in
     let names = c.args.names.now in
-    stays_in_memory host session session.jobs (plain (λ s. begins s c.args.word names)) (Error word.NoSnap) c.text_of-then-not-lists.result refl refl c.requires
+    stays_in_memory host session session.jobs (beginning c.args.word names) (Error word.NoSnap) c.text_of-then-not-lists.result refl refl c.requires
     (λ s tells stands. begins_as host session s c.args.word names stands false false false c.if-contains_key.ensures c.if-is_full.ensures c.if-not-lists.ensures)
     c.text_of-then-not-lists.ensures.text c.text_of-then-not-lists.ensures.memory
 
@@ -58,7 +59,7 @@ returns-in_err-changes g c =
     let before = g.H.Host.state c.args.host.now in
     let after = g.H.Host.state c.select.new.host in
     let fault = c.in_err-changes.field-0.0 in
-    let work = plain (λ s. begins s c.args.word c.args.names.now) in
+    let work = beginning c.args.word c.args.names.now in
     let p = err_from_is_err_and c.from_residual.result c.from_residual.ensures.1 in
     let same : c.from_residual.result ≡ Err fault = p.1 ∙ ap Err p.2 in
     subst (λ (r : Result (Vec ℕ) Fault). IsWorked work before after session session r) (sym same)
@@ -68,17 +69,17 @@ returns-in_err-changes g c =
 pub begin_over-requires-clause-sound : goal.begin_over-requires-clause-sound
 begin_over-requires-clause-sound g c = sound_reads (g.H.Host.state c.args.host.now) (g.H.Host.state c.select.new.host) c.args.self.now c.select.ensures.only c.requires
 
-pub begin_over-requires-clause-listed : goal.begin_over-requires-clause-listed
-begin_over-requires-clause-listed g c = subst (λ (selection : Selection). AreListed (listed_in c.args.self.now) selection) c.in-Changes.is c.in_ok-changes.ensures.listed
+pub begin_over-requires-clause-entries : goal.begin_over-requires-clause-entries
+begin_over-requires-clause-entries g c = subst (λ (selection : Selection). AreEntries (listed_in c.args.self.now) selection) c.in-Changes.is c.in_ok-changes.ensures.entries
 
-pub begin_over-requires-clause-selectable : goal.begin_over-requires-clause-selectable
-begin_over-requires-clause-selectable g c = λ tells.
+pub begin_over-requires-clause-opened : goal.begin_over-requires-clause-opened
+begin_over-requires-clause-opened g c = λ tells.
     let before = g.H.Host.state c.args.host.now in
     let mid = g.H.Host.state c.select.new.host in
     let only = c.select.ensures.only in
     let told = sym only.tells ∙ tells in
     let chosen = chosen_in (listed_in c.args.self.now) c.args.names.now in
-    all_selectable before mid only told (map (λ c. c.value) c.in-Changes.changes.items) (subst (λ (x : Selection). IsSelection before chosen x) c.in-Changes.is (c.in_ok-changes.ensures.selection told)).selectable
+    all_opened before mid only told (map (λ c. c.value) c.in-Changes.changes.items) (subst (λ (x : Selection). IsSelection before chosen x) c.in-Changes.is (c.in_ok-changes.ensures.selection told)).opened
 
 pub returns-in-Changes : goal.returns-in-Changes
 returns-in-Changes g c =
@@ -92,12 +93,15 @@ returns-in-Changes g c =
     let basis : List Delta = changes_of (publications_of (bytes_of before) chosen) in
     let cs : List Change = map (λ c. c.value) c.in-Changes.changes.items in
     let selection : IsTrue before.tells → AreChosen before chosen cs = λ tells. subst (λ (x : Selection). IsSelection before chosen x) c.in-Changes.is (c.in_ok-changes.ensures.selection tells) in
-    after_reads before mid after session c.begin_over.new.self (plain (λ s. begins s c.args.word names)) (plain (λ s. begins_over s c.args.word basis)) c.begin_over.result c.requires only
+    let worked = c.begin_over.ensures basis (λ tells. let told = sym only.tells ∙ tells in zip_read before mid only told cs basis (selection told).stored) in
+    after_reads before mid after session c.begin_over.new.self (beginning c.args.word names) (beginning_over c.args.word (map (λ c. c.listed.name) cs) basis) c.begin_over.result c.requires only
     (none_by (none_yet before) c.select.ensures.cause (no_fault c.select.result c.in_ok-changes.field-0 Disk c.in_ok-changes.was))
     (λ s tells stands. begins_as before session s c.args.word names stands false false true c.if-contains_key.ensures c.if-is_full.ensures c.if-not-lists.ensures
     ∙ begins_chosen before session s c.args.word names stands None (selection tells).whole)
     (λ s. refl) (λ t. refl)
-    (c.begin_over.ensures basis (λ tells. let told = sym only.tells ∙ tells in zip_read before mid only told cs basis (selection told).stored))
+    worked
+    (λ quiet. on_ok_by c.begin_over.result (after.reads ≡ mid.reads) (after.reads ≡ before.reads) (λ reads. reads ∙ c.in_ok-changes.ensures.reads (names_kept session names c.requires.memory quiet)) (worked.reads tt))
+    (ap Some (sym (subst (λ (x : Selection). AreNamedBy names x) c.in-Changes.is c.in_ok-changes.ensures.names)))
 
 pub returns-in-Damaged : goal.returns-in-Damaged
 returns-in-Damaged g c =
@@ -107,10 +111,11 @@ returns-in-Damaged g c =
     let after = g.H.Host.state c.select.new.host in
     let chosen = chosen_in (listed_in session) names in
     let selection : IsTrue before.tells → IsSelection before chosen (Damaged c.in-Damaged.name) = λ tells. subst (λ (x : Selection). IsSelection before chosen x) c.in-Damaged.is (c.in_ok-changes.ensures.selection tells) in
-    stays_worked before after session session.jobs (plain (λ s. begins s c.args.word names)) (DamagedReply c.in-Damaged.name) c.text_of-in-Damaged.result refl refl c.requires c.select.ensures.only
+    stays_worked before after session session.jobs (beginning c.args.word names) (DamagedReply c.in-Damaged.name) c.text_of-in-Damaged.result refl refl c.requires c.select.ensures.only
     (none_by (none_yet before) c.select.ensures.cause (no_fault c.select.result c.in_ok-changes.field-0 Disk c.in_ok-changes.was))
     (λ s tells stands.
     let damaged = selection tells in
     begins_as before session s c.args.word names stands false false true c.if-contains_key.ensures c.if-is_full.ensures c.if-not-lists.ensures
     ∙ begins_chosen before session s c.args.word names stands (Some damaged.0) damaged.1 ∙ ap (λ (name : List ℕ). stays s (DamagedReply name)) damaged.2)
     c.text_of-in-Damaged.ensures.text c.text_of-in-Damaged.ensures.memory
+    (λ quiet. on_ok c.text_of-in-Damaged.result (after.reads ≡ before.reads) (c.in_ok-changes.ensures.reads (names_kept session names c.requires.memory quiet)))

@@ -71,4 +71,4 @@ returns g c =
     (none_by (none_yet before) c.flush.ensures.cause (ok Disk c.in_ok-flush.was)) (none_unless x.layers.log.refused (λ some. ok LogFull c.in_ok-flush.was (c.flush.ensures.full.1 some))) refl of.sound (ap (λ (n : _). n.job) c.flush.ensures.number)
     (ap (map (λ c. c.value)) c.flush.ensures.basis)
     (λ s f. ap (λ (o : Option Job). of_live o s (λ j. record { session = with_job s w (after_flush j); reply = OkReply })) f.found) (λ s f. refl) (λ s f tells. c.text_of-2.ensures.text)
-    (λ s f tells stands. changed_stands before after session w live c.requires found c.flush.ensures.only x jobs set s (after_flush f.plain) tells stands (of.stands f.plain tells f.is)) c.text_of-2.ensures.memory
+    (λ s f tells stands. changed_stands before after session w live c.requires found c.flush.ensures.only x jobs set s (after_flush f.plain) tells stands (of.stands f.plain tells f.is)) c.text_of-2.ensures.memory (λ quiet. quiet)

@@ -78,4 +78,4 @@ returns g c =
     (none_unless x.layers.log.refused (λ some. ok LogFull c.in_ok-answer.was (c.op.ensures.full.1 some))) refl of.sound of.number (ap (map (λ c. c.value)) c.op.ensures.basis)
     (λ s f. ap (λ (o : Option Job). of_live o s (λ j. operates s w j (does j op))) f.found) (λ s f. refl)
     (λ s f tells. subst (λ (a : OpReply). IfOk c.text_of-2.result (λ bytes. bytes.items ≡ text (told a))) (of.answer f.plain tells f.is) (subst (λ (r : Reply). IfOk c.text_of-2.result (λ bytes. bytes.items ≡ text r)) c.told.ensures c.text_of-2.ensures.text))
-    (λ s f tells stands. changed_stands before after_op session w live c.requires.sound found c.op.ensures.only x jobs set s (after f.plain (does f.plain op)) tells stands (of.stands f.plain tells f.is)) c.text_of-2.ensures.memory
+    (λ s f tells stands. changed_stands before after_op session w live c.requires.sound found c.op.ensures.only x jobs set s (after f.plain (does f.plain op)) tells stands (of.stands f.plain tells f.is)) c.text_of-2.ensures.memory (λ quiet. quiet)

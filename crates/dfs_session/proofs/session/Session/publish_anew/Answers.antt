@@ -135,8 +135,11 @@ returns g c =
     let wrote = c.publish_tables.ensures in
     let listing = c.list.ensures in
     let listed : Listed = record { name = c.args.name; job = live.ids.job; at = sealed.at; len = sealed.len; count = sealed.count } in
-    published_worked before mid after session w live c.requires.sound found wrote.only listing.only listed refl c.list.new.registry c.remove.new.self c.in_ok-list.ensures.listed
+    published_worked before mid after session w live c.requires.sound found wrote.only listing.only listed refl c.list.new.registry c.remove.new.self c.end.new.self (record { indexed = c.end.ensures.indexed; here = c.end.ensures.ended; others = c.end.ensures.others }) c.in_ok-list.ensures.listed
     (c.remove.ensures.entries ∙ ap (λ (es : Live). remove_entry (is_at (word_cmp w)) es) (c.get_mut.follows.holds x).0 ∙ remove_set (is_at (word_cmp w)) (jobs_of session) x)
     c.in_ok-list.ensures.live c.in_ok-list.ensures.stands listing.images c.in_ok-reply.reply sealed.count
     (none_by (none_by (none_yet before) wrote.cause (no_fault c.publish_tables.result sealed Disk c.in_ok-sealed.was)) listing.cause (no_fault c.list.result tt Disk c.in_ok-list.was))
     c.in_ok-reply.ensures.text of.count (λ j tells stands. of.changes j tells stands c.args.name) of.settled
+
+pub end-requires : goal.end-requires
+end-requires g c = c.requires.sound.memory.kept

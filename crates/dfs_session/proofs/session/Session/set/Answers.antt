@@ -1,4 +1,4 @@
-use Rattle.std.proofs.Common.{◌≡◌, ◌∙◌, refl, sym, ap}
+use Rattle.std.proofs.Common.{◌≡◌, ◌∙◌, None, refl, sym, ap}
 use Rattle.std.specs.Prelude.{IfOk, OnOk}
 use Rattle.dfs_host.proofs.Causes.{none_yet}
 use Rattle.dfs_host.proofs.Moments.{silent_reads, reads_nothing}
@@ -6,11 +6,11 @@ use Rattle.dfs_session.specs.declared.session.Session.{Session as LiveSession}
 use Rattle.dfs_session.specs.Session.{sets, with_setting}
 use Rattle.dfs_session.specs.Sound.{IsSound}
 use Rattle.dfs_session.specs.Stands.{Stands}
-use Rattle.dfs_session.specs.Worked.{setting}
+use Rattle.dfs_session.specs.Worked.{AreNamed, setting}
 use Rattle.dfs_session.proofs.Faults.{sound_refused}
 use Rattle.dfs_session.proofs.Images.{read_images}
 use Rattle.dfs_session.proofs.Values.{stands_value}
-use Rattle.dfs_session.proofs.Working.{on_ok, worked_by_memory}
+use Rattle.dfs_session.proofs.Working.{on_ok, same_names, worked_by_memory}
 use Rattle.dfs_session.proofs.session.Session.set.Goals as goal
 
 pub returns : goal.returns
@@ -19,9 +19,21 @@ returns c = λ host sound.
     let new : LiveSession = record old { settings = c.with_setting-self.result } in
     let memory = sound.memory in
     let new_sound : IsSound host new = record {
-      memory = record { live = memory.live; registry = memory.registry; settings = c.with_setting-self.ensures.settings; greatest = memory.greatest; listed = memory.listed; jobs = memory.jobs; apart = memory.apart };
+      memory = record {
+        live = memory.live;
+        registry = memory.registry;
+        settings = c.with_setting-self.ensures.settings;
+        greatest = memory.greatest;
+        listed = memory.listed;
+        jobs = memory.jobs;
+        apart = memory.apart;
+        kept = memory.kept;
+        entries = memory.entries;
+        ended = memory.ended;
+      };
       registry = sound.registry;
       jobs = sound.jobs;
+      kept = sound.kept;
     } in
     worked_by_memory host host old new (setting c.args.what c.args.value) c.text_of.result c.text_of.ensures.memory (silent_reads (reads_nothing host)) (none_yet host) (sound_refused new new_sound.memory) c.with_setting-self.ensures.with
     (on_ok c.text_of.result (IsSound host new) new_sound) (λ s tells stands. c.text_of.ensures.text)
@@ -33,4 +45,5 @@ returns c = λ host sound.
       settings = ap (with_setting c.args.what c.args.value) stands.settings ∙ sym c.with_setting-self.ensures.with;
     }))
     (λ s tells stands. stands_value host old s tells sound stands) (λ s tells stands. refl)
-    (λ s tells stands. read_images host host old s s.registry tells sound stands (reads_nothing host))
+    (λ s tells stands. read_images host host old s s.registry tells sound stands (reads_nothing host)) (λ quiet. absurd quiet)
+    (on_ok c.text_of.result (AreNamed None old new) (same_names old new None refl refl new_sound.memory))

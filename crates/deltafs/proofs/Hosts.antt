@@ -10,7 +10,7 @@ use Rattle.dfs_session.specs.Files.{publications_of, value, value_on}
 use Rattle.dfs_session.specs.Session.{Session}
 use Rattle.dfs_session.specs.Sound.{IsSound, jobs_of, listed_in}
 use Rattle.dfs_session.specs.Stands.{Stands}
-use Rattle.dfs_session.proofs.Kept.{keep_all_jobs, plains_stay, zip_stays}
+use Rattle.dfs_session.proofs.Kept.{keep_all_jobs, opened_stay, plains_stay, zip_stays}
 use Rattle.deltafs.specs.declared.status.Status.{Status}
 use Rattle.deltafs.specs.declared.status.Status.TheVariants.{Changed, Done}
 use Rattle.deltafs.specs.Causes.{HasCause, DiskFaultsOf, SayFaultsOf}
@@ -51,6 +51,7 @@ sound_stays old new session tells same sound = record {
   memory = sound.memory;
   registry = λ told. registry_stays old new (same (sym tells ∙ told)) session (sound.registry (sym tells ∙ told));
   jobs = λ told. plains_stay old new (jobs_of session) (keep_all_jobs old new (jobs_of session) (same (sym tells ∙ told))) (sound.jobs (sym tells ∙ told));
+  kept = λ told. opened_stay old new session.kept (same (sym tells ∙ told)) (sound.kept (sym tells ∙ told));
 }
 
 -- Causes, one run of calls behind the other.

@@ -1,26 +1,24 @@
 -- What a session keeps of begins.
-use Rattle.std.proofs.Common.{◌≡◌, ◌≢◌, ◌∙◌, inl, inr, ℕ, ◌≤◌, Bool, true, false, cond, List, [], ◌∷◌, ◌++◌, Option, Some, None, refl, sym, ap, subst, arith}
+use Rattle.std.proofs.Common.{◌≡◌, ◌≢◌, ◌∙◌, inl, inr, ℕ, Bool, true, false, cond, List, [], ◌∷◌, ◌++◌, Option, Some, None, refl, sym, ap, subst, arith}
 use Rattle.std.proofs.lemmas.Bool.{and_parts, eq-eqb}
 use Rattle.std.proofs.lemmas.List.Folds.{Any-from_list_any}
 use Rattle.std.proofs.lemmas.Option.{none-some}
 use Rattle.std.proofs.lemmas.Slice.Eq.{bytes_eq-Decides}
-use Rattle.std.specs.Prelude.{◌⊎◌, ◌||◌, IfSome, IsSome, IsTrue, find, is_some, nat_eq}
-use Rattle.std.specs.List.{Any, AllByRecursion, Contains, cons_option, list_all, list_any}
+use Rattle.std.specs.Prelude.{◌⊎◌, ◌||◌, IfSome, IsSome, find}
+use Rattle.std.specs.List.{AllByRecursion, Contains, cons_option, list_all, list_any}
 use Rattle.dfs_host.specs.Host.{HostState, bytes_of}
 use Rattle.dfs_record.specs.declared.SnapName.{SnapName}
 use Rattle.dfs_change.specs.declared.change.Change.{Change}
 use Rattle.dfs_change.specs.Meant.{log_meaning}
 use Rattle.dfs_table.specs.Stored.{IsStored}
 use Rattle.dfs_registry.specs.declared.listed.Listed.{Listed}
-use Rattle.dfs_registry.specs.Body.{has_job, has_name, lists_job, lists_name, repeats}
+use Rattle.dfs_registry.specs.Body.{has_job, has_name, lists_job, lists_name}
 use Rattle.dfs_registry.specs.Reading.{IsListing, MayFollow}
-use Rattle.dfs_script.specs.declared.JobWord.{JobWord}
-use Rattle.dfs_job.specs.declared.job.Job.{Job as LiveJob}
 use Rattle.dfs_job.proofs.Apart.{selectable_still}
 use Rattle.dfs_session.specs.declared.keeping.Kept.{Kept}
 use Rattle.dfs_session.specs.declared.keeping.Use.{Use}
 use Rattle.dfs_session.specs.declared.session.Session.{Session as LiveSession}
-use Rattle.dfs_session.specs.Kept.{EachBegun, IsIndexed, IsKept, IsOpened, IsOwn, begin_in, kept_at, use_of}
+use Rattle.dfs_session.specs.Kept.{EachBegun, IsIndexed, IsKept, IsOwn, begin_in, kept_at, use_of}
 use Rattle.dfs_session.specs.Selected.{chosen_in, is_selected, listed_as}
 use Rattle.dfs_session.specs.Sound.{IsEntry, IsLive, IsSoundInMemory, jobs_of, listed_in, number_of}
 use Rattle.dfs_session.specs.Worked.{AreSelected}

@@ -1,5 +1,5 @@
 -- What stands on a host stands on a later one that has the files it stands on.
-use Rattle.std.proofs.Common.{◌≡◌, ◌≢◌, ◌∙◌, ℕ, Bool, true, false, cond, Some, List, [], ◌∷◌, length, take, sym, ap, subst}
+use Rattle.std.proofs.Common.{◌≡◌, ◌≢◌, ◌∙◌, ℕ, Bool, true, false, cond, Some, List, [], ◌∷◌, sym, ap, subst}
 use Rattle.std.proofs.lemmas.Bool.{eq-eqb}
 use Rattle.std.specs.Prelude.{IsTrue, nat_eq, ◌||◌}
 use Rattle.std.specs.List.{AllByRecursion, AllZip}
@@ -18,12 +18,13 @@ use Rattle.dfs_registry.specs.Seen.{RegistryState}
 use Rattle.dfs_registry.specs.Standing.{RegistryStands}
 use Rattle.dfs_script.specs.declared.JobWord.{JobWord}
 use Rattle.dfs_job.specs.declared.job.Job.{Job as LiveJob}
+use Rattle.dfs_session.specs.declared.keeping.Kept.{Kept}
 use Rattle.dfs_session.specs.declared.session.Session.{Session as LiveSession}
-use Rattle.dfs_session.specs.Kept.{IsOwn}
+use Rattle.dfs_session.specs.Kept.{EachBegun, IsOwn}
 use Rattle.dfs_session.specs.Session.{Session}
 use Rattle.dfs_session.specs.Sound.{AreApart, IsListed, IsLive, IsSound, PlainOf, jobs_of, listed_in, number_of}
 use Rattle.dfs_session.specs.Stands.{EntryStands, Stands, LogIsSettled}
-use Rattle.dfs_session.proofs.Begun.{kept_still, opened_still}
+use Rattle.dfs_session.proofs.Begun.{each_mapped, opened_still}
 use Rattle.dfs_session.proofs.Jobs.{Live, Plain, all_found, same_job}
 use Rattle.dfs_session.proofs.Lists.{mapped}
 use Rattle.dfs_registry.proofs.Standing.{standing_list}
@@ -168,13 +169,17 @@ module _ (before after : HostState) (ls : List Listed) (greatest n : ℕ) (other
           let other : number_of e.1 ≢ n = λ number. all_found (λ g. number_of e.1 ≢ number_of g) test es old apart.0 later (number ∙ sym same) in
           (plain_kept before after e.1 (keep_job e.1 live.0 other) all.0, rest later)
 
+-- what is kept of begins, where the files are
+pub opened_stay : (before after : HostState) (kept : Kept) → ((m : ℕ) → Keeps before after m) → EachBegun (IsOwn before) kept → EachBegun (IsOwn after) kept
+opened_stay before after kept each = each_mapped (IsOwn before) (IsOwn after) kept (λ c is. opened_still before after c (ap bytes_in (each c.listed.job)) is)
+
 -- a session that stood before calls that only read
 pub sound_reads : (before after : HostState) (session : LiveSession) → OnlyReads before after → IsSound before session → IsSound after session
 sound_reads before after session only sound = record {
   memory = sound.memory;
   registry = λ tells. let told = sym only.tells ∙ tells in registry_kept before after session.registry (reads_keep only told 0) (sound.registry told);
   jobs = λ tells. let told = sym only.tells ∙ tells in plains_stay before after (jobs_of session) (keep_all_jobs before after (jobs_of session) (reads_keep only told)) (sound.jobs told);
-  kept = λ tells. let told = sym only.tells ∙ tells in kept_still before after (listed_in session) session.kept (bytes_stay before after (listed_in session) (keep_all before after (listed_in session) (reads_keep only told))) sound.memory.entries (sound.kept told);
+  kept = λ tells. let told = sym only.tells ∙ tells in opened_stay before after session.kept (reads_keep only told) (sound.kept told);
 }
 
 -- the same publications stand where the listed logs are kept, and the jobs where theirs are

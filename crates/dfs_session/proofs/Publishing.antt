@@ -14,7 +14,6 @@ use Rattle.dfs_host.specs.declared.fault.Fault.{Fault}
 use Rattle.dfs_host.specs.declared.fault.Fault.TheVariants.{NoMemory, Disk, LogFull, Changed}
 use Rattle.dfs_host.proofs.Files.{left_when_settled}
 use Rattle.dfs_host.proofs.Moments.{silent_only, silent_on, widened}
-use Rattle.dfs_record.specs.Delta.{Delta}
 use Rattle.dfs_record.specs.KeyMap.{len}
 use Rattle.dfs_record.specs.Name.{is_between}
 use Rattle.dfs_change.specs.declared.change.Change.{Change}

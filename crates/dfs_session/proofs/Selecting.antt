@@ -10,7 +10,7 @@ use Rattle.dfs_host.specs.Fault.{NoFault}
 use Rattle.dfs_host.specs.Host.{HostState, Told, OnlyReads, bytes_of}
 use Rattle.dfs_record.specs.declared.Record.{Record}
 use Rattle.dfs_record.specs.declared.SnapName.{SnapName}
-use Rattle.dfs_record.specs.Delta.{Delta, delta, records_of}
+use Rattle.dfs_record.specs.Delta.{Delta, records_of}
 use Rattle.dfs_record.specs.Record.{IsRecord}
 use Rattle.dfs_registry.specs.declared.listed.Listed.{Listed}
 use Rattle.dfs_registry.specs.Body.{greatest_job, has_name, lists_job}

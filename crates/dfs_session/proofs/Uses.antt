@@ -1,5 +1,5 @@
 -- What is kept of the begins: one more, and one less.
-use Rattle.std.proofs.Common.{◌≡◌, ◌≢◌, ◌∙◌, inl, inr, ⊎_elim, ℕ, zero, suc, ◌<◌, ◌≤◌, Bool, true, false, cond, List, [], ◌∷◌, ◌++◌, map, Option, Some, None, refl, sym, ap, subst, arith}
+use Rattle.std.proofs.Common.{◌≡◌, ◌≢◌, ◌∙◌, inl, inr, ⊎_elim, ℕ, zero, suc, ◌≤◌, Bool, true, false, cond, List, [], ◌∷◌, ◌++◌, Option, Some, None, refl, sym, ap, subst, arith}
 use Rattle.std.proofs.lemmas.Bool.{eqb-true, eqb-false}
 use Rattle.std.proofs.lemmas.Bool.Decides.{nat_tests}
 use Rattle.std.proofs.lemmas.List.Elements.{Contains-push}
@@ -17,7 +17,7 @@ use Rattle.dfs_table.proofs.Stays.{all_append}
 use Rattle.dfs_change.specs.declared.change.Change.{Change}
 use Rattle.dfs_session.specs.declared.keeping.Kept.{Kept}
 use Rattle.dfs_session.specs.declared.keeping.Use.{Use}
-use Rattle.dfs_session.specs.Kept.{EachBegun, IsIndexed, begin_in, kept_at, use_cmp, use_of}
+use Rattle.dfs_session.specs.Kept.{IsIndexed, begin_in, kept_at, use_cmp, use_of}
 use Rattle.dfs_session.proofs.Lists.{mapped}
 
 pub same_or_not : (a b : ℕ) → (a ≡ b) ⊎ (a ≢ b)

@@ -1,4 +1,4 @@
-use Rattle.std.proofs.Common.{Err, sym, ap}
+use Rattle.std.proofs.Common.{Err, ap}
 use Rattle.dfs_host.specs.Host.{bytes_of}
 use Rattle.dfs_record.specs.Delta.{delta}
 use Rattle.dfs_table.specs.Stored.{run_records}

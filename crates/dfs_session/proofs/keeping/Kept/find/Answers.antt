@@ -1,5 +1,5 @@
-use Rattle.std.proofs.Common.{◌∙◌, None, sym, ap}
-use Rattle.std.specs.Prelude.{is_some, option_map}
+use Rattle.std.proofs.Common.{ap}
+use Rattle.std.specs.Prelude.{option_map}
 use Rattle.dfs_session.proofs.Uses.{first_use, no_use, not_some}
 use Rattle.dfs_session.proofs.keeping.Kept.find.Goals as goal
 

@@ -13,7 +13,7 @@ use Rattle.dfs_change.specs.declared.change.Change.{Change}
 use Rattle.dfs_reply.specs.declared.Reply.TheVariants.{Error, Damaged as DamagedReply}
 use Rattle.dfs_reply.specs.declared.Word.TheVariants as word
 use Rattle.dfs_session.specs.declared.selection.Selection.{Selection}
-use Rattle.dfs_session.specs.declared.selection.Selection.TheVariants.{Changes, Damaged}
+use Rattle.dfs_session.specs.declared.selection.Selection.TheVariants.{Damaged}
 use Rattle.dfs_session.specs.Files.{publications_of}
 use Rattle.dfs_session.specs.Selected.{AreChosen, AreEntries, AreNamedBy, is_listed, chosen_in, IsSelection}
 use Rattle.dfs_session.specs.Session.{changes_of, stays}

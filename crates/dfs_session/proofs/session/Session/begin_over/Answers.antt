@@ -11,7 +11,6 @@ use Rattle.dfs_change.specs.declared.change.Change.{Change}
 use Rattle.dfs_job.specs.Stands.{IsSelectable}
 use Rattle.dfs_session.specs.declared.session.Session.{Session as LiveSession}
 use Rattle.dfs_session.specs.Kept.{IsOwn}
-use Rattle.dfs_session.specs.Session.{begins_over}
 use Rattle.dfs_session.specs.Sound.{IsEntry, IsLive, jobs_of, listed_in, number_of}
 use Rattle.dfs_session.specs.Worked.{IsWorked, beginning_over}
 use Rattle.dfs_session.proofs.Selecting.{listed_earlier}

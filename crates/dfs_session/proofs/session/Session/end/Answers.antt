@@ -2,7 +2,7 @@ use Rattle.std.proofs.Common.{refl, ap, sym}
 use Rattle.dfs_session.specs.Session.{ends, of_live, without_job}
 use Rattle.dfs_reply.specs.declared.Reply.TheVariants.{Ok as OkReply, Error}
 use Rattle.dfs_reply.specs.declared.Word.TheVariants as word
-use Rattle.dfs_session.proofs.Changing.{ended_worked, no_job, unchanged_at}
+use Rattle.dfs_session.proofs.Changing.{ended_worked, no_job}
 use Rattle.dfs_session.specs.Worked.{plain}
 use Rattle.dfs_session.proofs.Working.{stays_in_memory}
 use Rattle.dfs_session.proofs.session.Session.end.Goals as goal

@@ -1,4 +1,4 @@
-use Rattle.std.proofs.Common.{◌≡◌, refl, sym, subst}
+use Rattle.std.proofs.Common.{refl, sym, subst}
 use Rattle.dfs_reply.specs.declared.Reply.TheVariants.{Nothing as NoReply}
 use Rattle.dfs_script.specs.declared.Line.{Line}
 use Rattle.dfs_script.specs.declared.Line.TheVariants.{Nothing}

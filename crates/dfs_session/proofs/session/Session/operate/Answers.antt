@@ -1,8 +1,8 @@
-use Rattle.std.proofs.Common.{◌≡◌, ◌∙◌, ℕ, Option, Some, Result, Ok, Err, refl, sym, ap, subst, map}
+use Rattle.std.proofs.Common.{◌≡◌, ◌∙◌, ℕ, Option, Result, Err, refl, sym, ap, subst, map}
 use Rattle.std.proofs.lemmas.Result.{err_from_is_err_and}
-use Rattle.std.specs.BTreeMap.{BTreeMap, is_at}
+use Rattle.std.specs.BTreeMap.{BTreeMap}
 use Rattle.std.specs.Global.{Vec}
-use Rattle.std.specs.Prelude.{IfOk, IsTrue}
+use Rattle.std.specs.Prelude.{IfOk}
 use Rattle.dfs_host.specs.Fault.{HasFaultCause}
 use Rattle.dfs_host.specs.declared.fault.Fault.{Fault}
 use Rattle.dfs_host.specs.declared.fault.Fault.TheVariants.{Disk, LogFull}
@@ -15,9 +15,9 @@ use Rattle.dfs_reply.specs.Text.{text}
 use Rattle.dfs_script.specs.declared.JobWord.{JobWord}
 use Rattle.dfs_job.specs.declared.job.Job.{Job as LiveJob}
 use Rattle.dfs_job.specs.Job.{Job, after, does}
-use Rattle.dfs_session.specs.Session.{of_live, operates, told, word_cmp}
+use Rattle.dfs_session.specs.Session.{of_live, operates, told}
 use Rattle.dfs_session.specs.Worked.{IsShort, IsWorked, operating, with_op}
-use Rattle.dfs_session.proofs.Changing.{answered_worked, changed_stands, fault_worked, found_job, no_job, was_live, was_sound}
+use Rattle.dfs_session.proofs.Changing.{answered_worked, changed_stands, fault_worked, found_job, no_job, was_sound}
 use Rattle.dfs_session.proofs.Handed.{none_unless}
 use Rattle.dfs_session.proofs.Selecting.{no_fault}
 use Rattle.dfs_session.proofs.Working.{stays_in_memory}

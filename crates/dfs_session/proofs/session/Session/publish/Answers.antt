@@ -6,7 +6,7 @@ use Rattle.dfs_reply.specs.declared.Reply.TheVariants.{Error}
 use Rattle.dfs_reply.specs.declared.Word.TheVariants as word
 use Rattle.dfs_job.specs.Job.{Job}
 use Rattle.dfs_session.specs.Selected.{is_listed}
-use Rattle.dfs_session.specs.Session.{of_job, of_live, publishes, publishes_for, publishes_anew}
+use Rattle.dfs_session.specs.Session.{of_live, publishes}
 use Rattle.dfs_session.specs.Sound.{listed_in, live_in}
 use Rattle.dfs_session.specs.Worked.{publishing, publishing_anew}
 use Rattle.dfs_session.proofs.Changing.{no_job, found_job, some_of, none_of}

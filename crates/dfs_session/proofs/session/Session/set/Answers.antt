@@ -1,5 +1,4 @@
-use Rattle.std.proofs.Common.{◌≡◌, ◌∙◌, None, refl, sym, ap}
-use Rattle.std.specs.Prelude.{IfOk, OnOk}
+use Rattle.std.proofs.Common.{◌∙◌, None, refl, sym, ap}
 use Rattle.dfs_host.proofs.Causes.{none_yet}
 use Rattle.dfs_host.proofs.Moments.{silent_reads, reads_nothing}
 use Rattle.dfs_session.specs.declared.session.Session.{Session as LiveSession}

@@ -1,6 +1,5 @@
-use Rattle.std.proofs.Common.{◌≡◌, ◌∙◌, Option, refl, sym, ap}
+use Rattle.std.proofs.Common.{◌∙◌, Option, refl, sym, ap}
 use Rattle.std.specs.BTreeMap.{is_at}
-use Rattle.std.specs.Prelude.{IsTrue}
 use Rattle.dfs_reply.specs.declared.Reply.TheVariants.{Error, Stats as StatsReply}
 use Rattle.dfs_reply.specs.declared.Word.TheVariants as word
 use Rattle.dfs_job.specs.Job.{Job, key_count, run_count}

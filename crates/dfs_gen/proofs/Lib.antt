@@ -2,3 +2,4 @@ pub mod Counting
 mod Lines
 mod Moved
 mod Rows
+pub mod Sizes

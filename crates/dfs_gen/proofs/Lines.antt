@@ -39,7 +39,7 @@ range_of_group : (g a k : ℕ)
 range_of_group g a zero = sym (none _ _ (omega arith))
 range_of_group g a (suc k) = one_before g a k _ (range_of_group g (a + 1) k) (a / 1000 == g) refl
 
-numbers_are : (creates g : ℕ) → numbers_of creates g ≡ range_with_len (1000 * g) (group_end creates g - 1000 * g)
+pub numbers_are : (creates g : ℕ) → numbers_of creates g ≡ range_with_len (1000 * g) (group_end creates g - 1000 * g)
 numbers_are creates g = range_of_group g 0 creates ∙ same_range _ _ _ _ (omega arith) (omega arith)
 
 -- the create at the front of those of its group

@@ -1,6 +1,7 @@
 -- What a line leaves, by its answer.
 use Rattle.std.proofs.Common.{◌≡◌, ◌∙◌, ℕ, List, [], ◌++◌, take, ap, sym, refl, subst, append-nil, append_assoc, arith}
 use Rattle.std.specs.Prelude.{IsErrOf, Result, Ok, Err, IfErr, OnOk, Some, Option}
+use Rattle.dfs_gen.specs.Summary.{Counts}
 use Rattle.dfs_host.specs.Host.{HostState, said_of}
 use Rattle.dfs_host.specs.declared.fault.Fault.TheVariants as fault
 use Rattle.dfs_registry.specs.declared.fault.RegFault.{RegFault}
@@ -9,13 +10,16 @@ use Rattle.dfs_script.specs.Script.{lines_of}
 use Rattle.dfs_session.specs.declared.session.Session.{Session as LiveSession}
 use Rattle.dfs_session.specs.Files.{value_on}
 use Rattle.dfs_session.specs.Session.{Registry}
+use Rattle.deltafs.specs.declared.status.Status.{Status}
 use Rattle.deltafs.specs.declared.status.Status.TheVariants.{Done}
 use Rattle.deltafs.specs.declared.status.Stop.{Stop}
 use Rattle.deltafs.specs.declared.status.Stop.TheVariants as stop
+use Rattle.deltafs.specs.declared.words.Command.{Command}
+use Rattle.deltafs.specs.declared.words.Command.TheVariants.{Run, Gen}
 use Rattle.deltafs.specs.Causes.{SourceFaultsOf}
-use Rattle.deltafs.specs.Lines.{LeavesFiles, SaysReply, SaysMore, Goes, status_by, status_after}
+use Rattle.deltafs.specs.Lines.{LeavesFiles, SaysText, SaysMore, Ends, Goes, status_by, status_after}
 use Rattle.deltafs.specs.Refusals.{status_of}
-use Rattle.deltafs.specs.Says.{Says, TakesAtMost, Untaken}
+use Rattle.deltafs.specs.Says.{TakesAtMost, Untaken}
 
 abbrev IsOutput : Stop → Type 0
 IsOutput stop.Output = Unit {0}
@@ -42,12 +46,18 @@ on_ok (Err e) p = tt
 
 -- A stop tells nothing of what was not taken.
 
-pub stops_rest : (s : Stop) (old : Registry) (script rest other said : List ℕ) (files : Option Registry) → Says (status_by s) old script rest said files → Says (status_by s) old script other said files
-stops_rest (stop.Fault fault.NoMemory) old script rest other said files says = says
-stops_rest (stop.Fault fault.Disk) old script rest other said files says = says
-stops_rest (stop.Fault fault.LogFull) old script rest other said files says = says
-stops_rest (stop.Fault (fault.Changed file at)) old script rest other said files says = says
-stops_rest stop.Output old script rest other said files says = says
+pub stops_rest : (command : Command) (s : Stop) (old : Registry) (script rest other said : List ℕ) (files : Option Registry) (counts : Counts) → Ends command (status_by s) old script rest said files counts
+    → Ends command (status_by s) old script other said files counts
+stops_rest Run (stop.Fault fault.NoMemory) old script rest other said files counts ends = ends
+stops_rest Run (stop.Fault fault.Disk) old script rest other said files counts ends = ends
+stops_rest Run (stop.Fault fault.LogFull) old script rest other said files counts ends = ends
+stops_rest Run (stop.Fault (fault.Changed file at)) old script rest other said files counts ends = ends
+stops_rest Run stop.Output old script rest other said files counts ends = ends
+stops_rest (Gen creates) (stop.Fault fault.NoMemory) old script rest other said files counts ends = ends
+stops_rest (Gen creates) (stop.Fault fault.Disk) old script rest other said files counts ends = ends
+stops_rest (Gen creates) (stop.Fault fault.LogFull) old script rest other said files counts ends = ends
+stops_rest (Gen creates) (stop.Fault (fault.Changed file at)) old script rest other said files counts ends = ends
+stops_rest (Gen creates) stop.Output old script rest other said files counts ends = ends
 
 pub no_limit : (s : Stop) (limit : ℕ) (script rest : List ℕ) → TakesAtMost limit script rest → Untaken (status_by s) limit script rest
 no_limit (stop.Fault fault.NoMemory) limit script rest most = most
@@ -59,6 +69,18 @@ no_limit stop.Output limit script rest most = most
 pub limit_after : (result : Result (Unit {0}) Stop) (limit : ℕ) (script rest : List ℕ) → Untaken Done limit script rest → TakesAtMost limit script rest → Untaken (status_after result) limit script rest
 limit_after (Ok u) limit script rest less most = less
 limit_after (Err s) limit script rest less most = no_limit s limit script rest most
+
+abbrev IsEnd : Status → Type 0
+IsEnd Done = Unit {0}
+IsEnd status = ⊥
+
+-- a stop is no end
+pub no_end : (s : Stop) → status_by s ≡ Done → ⊥
+no_end (stop.Fault fault.NoMemory) is = subst IsEnd (sym is) tt
+no_end (stop.Fault fault.Disk) is = subst IsEnd (sym is) tt
+no_end (stop.Fault fault.LogFull) is = subst IsEnd (sym is) tt
+no_end (stop.Fault (fault.Changed file at)) is = subst IsEnd (sym is) tt
+no_end stop.Output is = subst IsEnd (sym is) tt
 
 -- nothing was taken
 pub takes_none : (limit : ℕ) (script : List ℕ) → TakesAtMost limit script script
@@ -80,9 +102,11 @@ no_source (Err (stop.Fault (fault.Changed file at))) count = refl
 no_source (Err stop.Output) count = refl
 
 -- the end of a script of which all was taken
-pub says_end : (result : Result (Unit {0}) Stop) (old : Registry) (taken : List ℕ) (host : HostState) (session : LiveSession) → Goes result old (lines_of taken) taken [] host session → Says (status_after result) old taken [] (said_of host) (value_on host)
-says_end (Ok u) old taken host session after = record { said_all = after.said; none_left = refl; stands = after.value }
-says_end (Err s) old taken host session says = says
+pub ends_whole : (command : Command) (result : Result (Unit {0}) Stop) (old : Registry) (taken : List ℕ) (host : HostState) (counts : Counts) (session : LiveSession) → Goes command result old (lines_of taken) taken [] host counts session
+    → Ends command (status_after result) old taken [] (said_of host) (value_on host) counts
+ends_whole Run (Ok u) old taken host counts session after = record { said_all = after.said; none_left = refl; stands = after.value }
+ends_whole (Gen creates) (Ok u) old taken host counts session after = record { silent = after.said.0; counted = after.said.1; stands = after.value }
+ends_whole command (Err s) old taken host counts session ends = ends
 
 -- What is said only grows.
 
@@ -95,7 +119,7 @@ says_on {old} {mid} {new} first second = record {
   said = second.said ∙ ap (λ (l : List ℕ). l ++ second.more) first.said ∙ append_assoc (said_of old) first.more second.more;
 }
 
-pub says_reply : (result : Result (Unit {0}) Stop) (reply : List ℕ) (old mid new : HostState) → said_of mid ≡ said_of old → SaysReply result reply (said_of mid) (said_of new) → SaysMore old new
+pub says_reply : (result : Result (Unit {0}) Stop) (reply : List ℕ) (old mid new : HostState) → said_of mid ≡ said_of old → SaysText result reply (said_of mid) (said_of new) → SaysMore old new
 says_reply (Ok u) reply old mid new silent is = record { more = reply; said = is ∙ ap (λ (l : List ℕ). l ++ reply) silent }
 says_reply (Err (stop.Fault f)) reply old mid new silent is = record { more = []; said = is ∙ silent ∙ sym (append-nil (said_of old)) }
 says_reply (Err stop.Output) reply old mid new silent is = record { more = take is.0 reply; said = is.1 ∙ ap (λ (l : List ℕ). l ++ take is.0 reply) silent }

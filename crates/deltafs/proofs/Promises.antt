@@ -25,7 +25,7 @@ use Rattle.dfs_job.specs.Job.{Job, after_flush, does, key_count, own_changes, ru
 use Rattle.dfs_session.specs.Run.{session_after, written, output, Promise, promise_of, promises, published}
 use Rattle.dfs_session.specs.Session.{Session, Publication, Registry, Step, opened, step, after_meaning, after_command, begins, begins_unless, chosen, is_damaged, is_full, is_published, live_job, of_live, operates, publication_by, publishes, publishes_anew, refused, stays, with_job, without_job}
 use Rattle.dfs_session.proofs.Runs.{written-append, promises-append}
-use Rattle.deltafs.specs.Keeps.{acknowledged, IsAhead, Keeps}
+use Rattle.deltafs.specs.Keeps.{acknowledged, IsAhead, KeepsReplies}
 
 -- A step.
 
@@ -173,7 +173,7 @@ first_one xs ys x = take-append-add xs (x ∷ ys) 1
 
 -- with the acknowledged publications
 with_acknowledged : (old : Registry) (script : List ℕ) (image : Image) (unsaid : List ℕ) (ps qs : List Promise) → output old script ≡ image.said ++ unsaid → published old script ≡ ps ++ qs
-    → ended_by (length image.said) (ps ++ qs) ≡ length ps → value image.files ≡ Some (old ++ made ps) → Keeps old script image
+    → ended_by (length image.said) (ps ++ qs) ≡ length ps → value image.files ≡ Some (old ++ made ps) → KeepsReplies old script image
 with_acknowledged old script image unsaid ps qs begins all count holds = record {
   unsaid = unsaid;
   begins = begins;
@@ -182,7 +182,7 @@ with_acknowledged old script image unsaid ps qs begins all count holds = record 
 
 -- with one more
 with_next : (old : Registry) (script : List ℕ) (image : Image) (unsaid : List ℕ) (ps qs : List Promise) (p : Promise) → output old script ≡ image.said ++ unsaid → published old script ≡ ps ++ p ∷ qs
-    → ended_by (length image.said) (ps ++ p ∷ qs) ≡ length ps → p.start ≤ length image.said → value image.files ≡ Some (old ++ made (ps ++ p ∷ [])) → Keeps old script image
+    → ended_by (length image.said) (ps ++ p ∷ qs) ≡ length ps → p.start ≤ length image.said → value image.files ≡ Some (old ++ made (ps ++ p ∷ [])) → KeepsReplies old script image
 with_next old script image unsaid ps qs p begins all count reached holds = record {
   unsaid = unsaid;
   begins = begins;
@@ -197,7 +197,7 @@ with_next old script image unsaid ps qs p begins all count reached holds = recor
 -- an image that has said the front of the reply of a step, and holds what the step left
 keeps_step : (old : Registry) (script : List ℕ) (image : Image) (unsaid : List ℕ) (ps later : List Promise) (before : Registry) (t : Step) (at : ℕ) → Adds before t → before ≡ old ++ made ps → output old script ≡ image.said ++ unsaid
     → published old script ≡ ps ++ (promised at before t ++ later) → at ≤ length image.said → length image.said ≤ at + length (text t.reply)
-    → ended_by (length image.said) ps ≡ length ps → ended_by (length image.said) later ≡ 0 → value image.files ≡ Some t.session.registry → Keeps old script image
+    → ended_by (length image.said) ps ≡ length ps → ended_by (length image.said) later ≡ 0 → value image.files ≡ Some t.session.registry → KeepsReplies old script image
 keeps_step old script image unsaid ps later before t at (inl same) grown begins all least most earlier none holds =
     with_acknowledged old script image unsaid ps later begins
     (all ∙ ap (λ (l : List Promise). ps ++ (l ++ later)) (promised_none at before t same))
@@ -216,7 +216,7 @@ keeps_step old script image unsaid ps later before t at (inr p) grown begins all
         ∙ append_assoc old (made ps) (p.publication ∷ [])
         ∙ ap (λ (registry : Registry). old ++ registry) (sym (map-append (λ (q : Promise). q.publication) ps (promise_of at t p.publication ∷ []))))
 
-    by : (b : Bool) → nat_le (at + length (text t.reply)) (length image.said) ≡ b → Keeps old script image
+    by : (b : Bool) → nat_le (at + length (text t.reply)) (length image.said) ≡ b → KeepsReplies old script image
     by true is =
         let within : at + length (text t.reply) ≤ length image.said = leb-true (at + length (text t.reply)) (length image.said) is in
         with_acknowledged old script image unsaid (ps ++ promise_of at t p.publication ∷ []) later begins
@@ -244,10 +244,10 @@ keeps_step old script image unsaid ps later before t at (inr p) grown begins all
         least files
 
 module _ (old : Registry) (script : List ℕ) (before : List (List ℕ)) where
-  grown : (session_after (opened old) before).registry ≡ old ++ made (promises 0 (opened old) before)
+  pub grown : (session_after (opened old) before).registry ≡ old ++ made (promises 0 (opened old) before)
   grown = registry_grows 0 (opened old) before
 
-  published_is : (after : List (List ℕ)) → lines_of script ≡ before ++ after
+  pub published_is : (after : List (List ℕ)) → lines_of script ≡ before ++ after
       → published old script ≡ promises 0 (opened old) before ++ promises (length (written (opened old) before)) (session_after (opened old) before) after
   published_is after cut =
       let same : 0 + length (written (opened old) before) ≡ length (written (opened old) before) = omega arith in
@@ -259,7 +259,7 @@ module _ (old : Registry) (script : List ℕ) (before : List (List ℕ)) where
   output_is after cut = ap (written (opened old)) cut ∙ written-append (opened old) before after
 
   -- an image that has said the replies to these lines, and holds what they left
-  pub keeps_before : (after : List (List ℕ)) → lines_of script ≡ before ++ after → (image : Image) → image.said ≡ written (opened old) before → value image.files ≡ Some (session_after (opened old) before).registry → Keeps old script image
+  pub keeps_before : (after : List (List ℕ)) → lines_of script ≡ before ++ after → (image : Image) → image.said ≡ written (opened old) before → value image.files ≡ Some (session_after (opened old) before).registry → KeepsReplies old script image
   keeps_before after cut image said holds =
       let ps = promises 0 (opened old) before in
       let qs = promises (length (written (opened old) before)) (session_after (opened old) before) after in
@@ -274,7 +274,7 @@ module _ (old : Registry) (script : List ℕ) (before : List (List ℕ)) where
   -- an image that has said them and the front of the reply to one line more, and holds what that line left
   pub keeps_into : (line : List ℕ) (after : List (List ℕ)) → lines_of script ≡ before ++ line ∷ after → (image : Image) (count : ℕ)
       → image.said ≡ written (opened old) before ++ take count (text (step (session_after (opened old) before) line).reply)
-      → value image.files ≡ Some (step (session_after (opened old) before) line).session.registry → Keeps old script image
+      → value image.files ≡ Some (step (session_after (opened old) before) line).session.registry → KeepsReplies old script image
   keeps_into line after cut image count said holds =
       let s = session_after (opened old) before in
       let t = step s line in

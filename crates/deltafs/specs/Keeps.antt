@@ -1,4 +1,4 @@
--- What a crash at any moment leaves.
+-- What a crash at any moment leaves of a run that says its replies.
 use Rattle.std.specs.Prelude.{◌≡◌, ℕ, ◌+◌, ◌≤◌, ◌⊎◌, List, ◌++◌, length, map, take, nat_le, slice_get, Some}
 use Rattle.std.specs.List.{count_by}
 use Rattle.dfs_host.specs.Disk.{Image}
@@ -24,7 +24,7 @@ pub record IsAhead (old : Registry) (promises : List Promise) (image : Image) : 
   pub stands : value image.files ≡ Some (with_first old (acknowledged image.said promises + 1) promises)
 
 -- What an image has said begins the output of the script. Its files stand for the old registry and the acknowledged publications, or one more.
-pub record Keeps (old : Registry) (script : List ℕ) (image : Image) : Type 0 where
+pub record KeepsReplies (old : Registry) (script : List ℕ) (image : Image) : Type 0 where
   pub unsaid : List ℕ
   pub begins : output old script ≡ image.said ++ unsaid
   pub stands : (value image.files ≡ Some (with_first old (acknowledged image.said (published old script)) (published old script))) ⊎ IsAhead old (published old script) image
@@ -39,7 +39,3 @@ pub record IsInReply (t : Step) (so_far : List ℕ) (image : Image) : Type 0 whe
   pub count : ℕ
   pub said : image.said ≡ so_far ++ take count (text t.reply)
   pub holds : Holds t.session.registry image
-
--- an image of a line that does a step: no byte of a reply comes before what it promises
-abbrev pub IsOfLine : Registry → Step → List ℕ → Image → Type 0
-IsOfLine before t so_far image = IsBeforeReply before so_far image ⊎ IsInReply t so_far image

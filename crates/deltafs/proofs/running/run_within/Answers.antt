@@ -1,72 +1,168 @@
-use Rattle.std.proofs.Common.{◌∙◌, refl, subst, sym}
+use Rattle.std.proofs.Common.{◌≡◌, ◌∙◌, List, ℕ, [], Some, None, refl, ap, subst, sym}
+use Rattle.dfs_gen.specs.Summary.{Counts}
+use Rattle.dfs_host.specs.Host.{said_of}
 use Rattle.dfs_host.proofs.Moments.{goes_on}
+use Rattle.dfs_session.specs.Files.{value_on}
 use Rattle.deltafs.specs.declared.status.Status.{Status}
+use Rattle.deltafs.specs.declared.status.Status.TheVariants.{Usage}
+use Rattle.deltafs.specs.declared.words.Command.{Command}
+use Rattle.deltafs.specs.declared.words.Command.TheVariants.{Run, Gen}
+use Rattle.deltafs.specs.Causes.{IsOfLines}
+use Rattle.deltafs.specs.Commands.{Keeps, Says}
+use Rattle.deltafs.specs.Lines.{IsAfter}
 use Rattle.deltafs.specs.Says.{Untaken}
+use Rattle.deltafs.specs.Words.{command_of}
 use Rattle.deltafs.proofs.Faults.{limit_unopened, takes_none}
 use Rattle.deltafs.proofs.Leaving.{idle, opened_first, opening, prompt_idle, shut_idle}
+use Rattle.deltafs.proofs.Starting.{gen_run, says_nothing, says_unopened, some_none}
 use Rattle.deltafs.proofs.running.run_within.Goals as goal
 
-pub returns-then-not-is_run-clause-images : goal.returns-then-not-is_run-clause-images
-returns-then-not-is_run-clause-images g c old start = idle old (g.H.Host.state c.args.host.now) (g.S.Source.state c.args.source.now) start
+-- The script of the source.
 
-pub returns-in-Ok-open-clause-images : goal.returns-in-Ok-open-clause-images
-returns-in-Ok-open-clause-images g c old start =
+pub returns-in-Run-clause-says : goal.returns-in-Run-clause-says
+returns-in-Run-clause-says g c old start =
     let host = g.H.Host.state c.args.host.now in
     let source = g.S.Source.state c.args.source.now in
     let mid = g.H.Host.state c.open.new.host in
+    let new = g.H.Host.state c.run_script.new.host in
+    let is : command_of c.args.words.now ≡ Some Run = sym c.command_of.ensures ∙ c.in-Some.is ∙ ap Some c.in-Run.is in
     let kept = (c.open.ensures.silent start.host_tells (start.settled 0)).content start.host_tells in
-    goes_on (opening old host source start mid (c.open.ensures.images old start.host_tells start.settled start.value) kept.images)
-    (c.run_script.ensures.images old (c.open.ensures.cause.tells ∙ start.host_tells) start.source_tells
-    (opened_first old host source start mid c.in-Ok-open.session kept (c.in-Ok-open.ensures.stands old start.host_tells start.settled start.value) (c.open.ensures.value start.host_tells (start.settled 0))))
-    (λ image keeps. keeps)
+    let first = opened_first (command_of c.args.words.now) old host source start Run mid c.in-Ok-open.session kept (c.in-Ok-open.ensures.stands old start.host_tells start.settled start.value) (c.open.ensures.value start.host_tells (start.settled 0)) in
+    subst (λ k. Says k c.run_script.result old source.rest (g.S.Source.state c.run_script.new.source).rest (said_of new) (value_on new)) (sym is)
+    (c.run_script.ensures.says old (c.open.ensures.cause.tells ∙ start.host_tells) (start.source_tells is) (subst (λ (k : Counts). IsAfter Run old [] mid k c.in-Ok-open.session) (sym c.new-summary.ensures) first))
+
+pub returns-in-Run-clause-images : goal.returns-in-Run-clause-images
+returns-in-Run-clause-images g c old start =
+    let host = g.H.Host.state c.args.host.now in
+    let source = g.S.Source.state c.args.source.now in
+    let mid = g.H.Host.state c.open.new.host in
+    let command = command_of c.args.words.now in
+    let is : command ≡ Some Run = sym c.command_of.ensures ∙ c.in-Some.is ∙ ap Some c.in-Run.is in
+    let kept = (c.open.ensures.silent start.host_tells (start.settled 0)).content start.host_tells in
+    let first = opened_first command old host source start Run mid c.in-Ok-open.session kept (c.in-Ok-open.ensures.stands old start.host_tells start.settled start.value) (c.open.ensures.value start.host_tells (start.settled 0)) in
+    goes_on (opening command old host source start mid (c.open.ensures.images old start.host_tells start.settled start.value) kept.images)
+    (c.run_script.ensures.images old (c.open.ensures.cause.tells ∙ start.host_tells) (start.source_tells is) (subst (λ (k : Counts). IsAfter Run old [] mid k c.in-Ok-open.session) (sym c.new-summary.ensures) first))
+    (λ image keeps. subst (λ k. Keeps k old source.rest image) (sym is) keeps)
+
+pub returns-in-Run-clause-prompt : goal.returns-in-Run-clause-prompt
+returns-in-Run-clause-prompt g c old start =
+    let host = g.H.Host.state c.args.host.now in
+    let source = g.S.Source.state c.args.source.now in
+    let mid = g.H.Host.state c.open.new.host in
+    let command = command_of c.args.words.now in
+    let is : command ≡ Some Run = sym c.command_of.ensures ∙ c.in-Some.is ∙ ap Some c.in-Run.is in
+    let kept = (c.open.ensures.silent start.host_tells (start.settled 0)).content start.host_tells in
+    let first = opened_first command old host source start Run mid c.in-Ok-open.session kept (c.in-Ok-open.ensures.stands old start.host_tells start.settled start.value) (c.open.ensures.value start.host_tells (start.settled 0)) in
+    c.run_script.ensures.prompt old (c.open.ensures.cause.tells ∙ start.host_tells) (start.source_tells is) (subst (λ (k : Counts). IsAfter Run old [] mid k c.in-Ok-open.session) (sym c.new-summary.ensures) first)
+
+pub returns-in-Run-clause-usage : goal.returns-in-Run-clause-usage
+returns-in-Run-clause-usage g c = (
+  λ usage. absurd (subst IsOfLines usage c.run_script.ensures.lines),
+  λ none. absurd (some_none c.in-Some.command (sym c.in-Some.is ∙ c.command_of.ensures ∙ none)),
+)
+
+pub returns-in-Run-clause-left_alone : goal.returns-in-Run-clause-left_alone
+returns-in-Run-clause-left_alone g c other = absurd (other (sym c.command_of.ensures ∙ c.in-Some.is ∙ ap Some c.in-Run.is))
+
+pub returns-in-Run-clause-no_input : goal.returns-in-Run-clause-no_input
+returns-in-Run-clause-no_input g c other = absurd (other (sym c.command_of.ensures ∙ c.in-Some.is ∙ ap Some c.in-Run.is))
+
+pub returns-in-Run-clause-no_limit : goal.returns-in-Run-clause-no_limit
+returns-in-Run-clause-no_limit g c other = absurd (other (sym c.command_of.ensures ∙ c.in-Some.is ∙ ap Some c.in-Run.is))
+
+-- A generated script.
+
+pub returns-in-Gen-clause-says : goal.returns-in-Gen-clause-says
+returns-in-Gen-clause-says g c old start =
+    let host = g.H.Host.state c.args.host.now in
+    let source = g.S.Source.state c.args.source.now in
+    let mid = g.H.Host.state c.open.new.host in
+    let new = g.H.Host.state c.run_generated.new.host in
+    let command = command_of c.args.words.now in
+    let is : command ≡ Some (Gen c.in-Gen.creates) = sym c.command_of.ensures ∙ c.in-Some.is ∙ ap Some c.in-Gen.is in
+    let kept = (c.open.ensures.silent start.host_tells (start.settled 0)).content start.host_tells in
+    subst (λ k. Says k c.run_generated.result old source.rest source.rest (said_of new) (value_on new)) (sym is)
+    (c.run_generated.ensures.says old (c.open.ensures.cause.tells ∙ start.host_tells)
+    (opened_first command old host source start (Gen c.in-Gen.creates) mid c.in-Ok-open.session kept (c.in-Ok-open.ensures.stands old start.host_tells start.settled start.value) (c.open.ensures.value start.host_tells (start.settled 0))))
+
+pub returns-in-Gen-clause-images : goal.returns-in-Gen-clause-images
+returns-in-Gen-clause-images g c old start =
+    let host = g.H.Host.state c.args.host.now in
+    let source = g.S.Source.state c.args.source.now in
+    let mid = g.H.Host.state c.open.new.host in
+    let command = command_of c.args.words.now in
+    let is : command ≡ Some (Gen c.in-Gen.creates) = sym c.command_of.ensures ∙ c.in-Some.is ∙ ap Some c.in-Gen.is in
+    let kept = (c.open.ensures.silent start.host_tells (start.settled 0)).content start.host_tells in
+    goes_on (opening command old host source start mid (c.open.ensures.images old start.host_tells start.settled start.value) kept.images)
+    (c.run_generated.ensures.images old (c.open.ensures.cause.tells ∙ start.host_tells)
+    (opened_first command old host source start (Gen c.in-Gen.creates) mid c.in-Ok-open.session kept (c.in-Ok-open.ensures.stands old start.host_tells start.settled start.value) (c.open.ensures.value start.host_tells (start.settled 0))))
+    (λ image keeps. subst (λ k. Keeps k old source.rest image) (sym is) keeps)
+
+pub returns-in-Gen-clause-prompt : goal.returns-in-Gen-clause-prompt
+returns-in-Gen-clause-prompt g c old start = prompt_idle old _ _
+
+pub returns-in-Gen-clause-usage : goal.returns-in-Gen-clause-usage
+returns-in-Gen-clause-usage g c = (
+  λ usage. absurd (subst IsOfLines usage c.run_generated.ensures.lines),
+  λ none. absurd (some_none c.in-Some.command (sym c.in-Some.is ∙ c.command_of.ensures ∙ none)),
+)
+
+pub returns-in-Gen-clause-limit : goal.returns-in-Gen-clause-limit
+returns-in-Gen-clause-limit g c run tells = absurd (gen_run c.in-Gen.creates (sym (sym c.command_of.ensures ∙ c.in-Some.is ∙ ap Some c.in-Gen.is) ∙ run))
+
+-- A registry that was not opened.
+
+pub returns-in-Err-clause-says : goal.returns-in-Err-clause-says
+returns-in-Err-clause-says g c old start =
+    let host = g.H.Host.state c.args.host.now in
+    let mid = g.H.Host.state c.open.new.host in
+    let script = (g.S.Source.state c.args.source.now).rest in
+    let command = command_of c.args.words.now in
+    let silent = (c.open.ensures.silent start.host_tells (start.settled 0)).content start.host_tells in
+    subst (λ (s : Status). Says command s old script script (said_of mid) (value_on mid)) (sym c.unopened.ensures)
+    (says_unopened command c.in-Err.fault old script (said_of mid) (value_on mid) host (c.in-Err.ensures.answer start.host_tells) start.value (silent.said ∙ start.silent) (c.open.ensures.value start.host_tells (start.settled 0) ∙ start.value))
 
 pub returns-in-Err-clause-images : goal.returns-in-Err-clause-images
 returns-in-Err-clause-images g c old start =
     let silent = c.open.ensures.silent start.host_tells (start.settled 0) in
-    opening old (g.H.Host.state c.args.host.now) (g.S.Source.state c.args.source.now) start (g.H.Host.state c.open.new.host) (c.open.ensures.images old start.host_tells start.settled start.value) (silent.content start.host_tells).images
-
-pub returns-in_default-clause-images : goal.returns-in_default-clause-images
-returns-in_default-clause-images g c old start = idle old (g.H.Host.state c.args.host.now) (g.S.Source.state c.args.source.now) start
-
--- What was said before the last piece.
-
-pub returns-then-not-is_run-clause-prompt : goal.returns-then-not-is_run-clause-prompt
-returns-then-not-is_run-clause-prompt g c old start = prompt_idle old _ _
-
-pub returns-in-Ok-open-clause-prompt : goal.returns-in-Ok-open-clause-prompt
-returns-in-Ok-open-clause-prompt g c old start =
-    let host = g.H.Host.state c.args.host.now in
-    let kept = (c.open.ensures.silent start.host_tells (start.settled 0)).content start.host_tells in
-    c.run_script.ensures.prompt old (c.open.ensures.cause.tells ∙ start.host_tells) start.source_tells
-    (opened_first old host (g.S.Source.state c.args.source.now) start (g.H.Host.state c.open.new.host) c.in-Ok-open.session kept (c.in-Ok-open.ensures.stands old start.host_tells start.settled start.value) (c.open.ensures.value start.host_tells (start.settled 0)))
+    opening (command_of c.args.words.now) old (g.H.Host.state c.args.host.now) (g.S.Source.state c.args.source.now) start (g.H.Host.state c.open.new.host) (c.open.ensures.images old start.host_tells start.settled start.value) (silent.content start.host_tells).images
 
 pub returns-in-Err-clause-prompt : goal.returns-in-Err-clause-prompt
 returns-in-Err-clause-prompt g c old start = prompt_idle old _ _
 
-pub returns-in_default-clause-prompt : goal.returns-in_default-clause-prompt
-returns-in_default-clause-prompt g c old start = prompt_idle old _ _
-
--- What was taken.
-
-pub returns-then-not-is_run-clause-limit : goal.returns-then-not-is_run-clause-limit
-returns-then-not-is_run-clause-limit g c tells = takes_none _ _
-
 pub returns-in-Err-clause-limit : goal.returns-in-Err-clause-limit
-returns-in-Err-clause-limit g c tells =
+returns-in-Err-clause-limit g c run tells =
     let script = (g.S.Source.state c.args.source.now).rest in
     subst (λ (s : Status). Untaken s c.args.limits.script_bytes script script) (sym c.unopened.ensures) (limit_unopened c.in-Err.fault c.args.limits.script_bytes script)
-
-pub returns-in_default-clause-limit : goal.returns-in_default-clause-limit
-returns-in_default-clause-limit g c tells = takes_none _ _
-
--- Where file 0 is no registry.
-
-pub returns-then-not-is_run-clause-shut : goal.returns-then-not-is_run-clause-shut
-returns-then-not-is_run-clause-shut g c tells settled none = record { said = refl; untaken = refl; value = none; only = shut_idle (g.H.Host.state c.args.host.now) settled }
 
 pub returns-in-Err-clause-shut : goal.returns-in-Err-clause-shut
 returns-in-Err-clause-shut g c tells settled none =
     record { said = ((c.open.ensures.silent tells settled).content tells).said; untaken = refl; value = c.open.ensures.value tells settled ∙ none; only = c.open.ensures.only tells settled }
 
+-- Other words.
+
+pub returns-in_default-clause-images : goal.returns-in_default-clause-images
+returns-in_default-clause-images g c old start = idle (command_of c.args.words.now) old (g.H.Host.state c.args.host.now) (g.S.Source.state c.args.source.now) start
+
+pub returns-in_default-clause-prompt : goal.returns-in_default-clause-prompt
+returns-in_default-clause-prompt g c old start = prompt_idle old _ _
+
 pub returns-in_default-clause-shut : goal.returns-in_default-clause-shut
 returns-in_default-clause-shut g c tells settled none = record { said = refl; untaken = refl; value = none; only = shut_idle (g.H.Host.state c.args.host.now) settled }
+
+-- Want of memory at the start.
+
+pub returns-in_default-new-clause-says : goal.returns-in_default-new-clause-says
+returns-in_default-new-clause-says g c old start = says_nothing (command_of c.args.words.now) old _ _ _ start.silent start.value
+
+pub returns-in_default-new-clause-images : goal.returns-in_default-new-clause-images
+returns-in_default-new-clause-images g c old start = idle (command_of c.args.words.now) old (g.H.Host.state c.args.host.now) (g.S.Source.state c.args.source.now) start
+
+pub returns-in_default-new-clause-prompt : goal.returns-in_default-new-clause-prompt
+returns-in_default-new-clause-prompt g c old start = prompt_idle old _ _
+
+pub returns-in_default-new-clause-limit : goal.returns-in_default-new-clause-limit
+returns-in_default-new-clause-limit g c run tells = takes_none _ _
+
+pub returns-in_default-new-clause-shut : goal.returns-in_default-new-clause-shut
+returns-in_default-new-clause-shut g c tells settled none = record { said = refl; untaken = refl; value = none; only = shut_idle (g.H.Host.state c.args.host.now) settled }

@@ -1,5 +1,5 @@
 -- Sources that are being written to logs.
-use Rattle.std.proofs.Common.{◌≡◌, ◌≤◌, ◌<◌, ◌+◌, ◌++◌, ◌∷◌, [], inl, inr, ℕ, List, length, take, refl, ◌∙◌, sym, ap, subst, arith, append-nil}
+use Rattle.std.proofs.Common.{◌≡◌, ◌≤◌, ◌<◌, ◌+◌, ◌*◌, ◌++◌, ◌∷◌, [], inl, inr, ℕ, List, length, take, refl, ◌∙◌, sym, ap, subst, arith, append-nil}
 use Rattle.std.specs.Prelude.{Some}
 use Rattle.std.proofs.lemmas.List.{length-take, take-take}
 use Rattle.dfs_host.specs.Host.{HostState, Told, bytes_of, Only}
@@ -59,13 +59,13 @@ module _ {start mid : HostState} {log_start log : LogState} (new : HostState) (s
       over = over;
     }
 
--- so few records never need too many tables
-pub not_too_many : {start mid : HostState} {log_start log : LogState} {all rest : List Record} {w : WriterState} → IsWriting start mid log_start log all rest w → length all ≤ 536870912 → 1 ≤ length rest → (r : Record) → IsOneTooMany w r → ⊥
-not_too_many {w = w} h few some r many = elim many.0 [
-  | inl none ↦ absurd (omega (arith, many.1, h.tables_left, ap length none, ap length (h.sound.none none).0, length-take 1 w.records))
-  | inr last ↦ absurd (omega (arith, many.1, last.1, h.tables_left, blocks_enough w h.sound, h.count, few, some, length-take 1 w.records))
+-- a table too many is begun only for more records than so many tables have blocks
+pub too_many : {start mid : HostState} {log_start log : LogState} {tables : ℕ} {all rest : List Record} {w : WriterState} → IsWriting start mid log_start log tables all rest w → 1 ≤ length rest → (r : Record) → IsOneTooMany w r → 4096 * tables < length all
+too_many {w = w} h some r many = elim many.0 [
+  | inl none ↦ omega (arith, many.1, h.tables_left, h.count, some, ap length none, ap length (h.sound.none none).0, length-take 1 w.records)
+  | inr last ↦ omega (arith, many.1, last.1, h.tables_left, blocks_enough w h.sound, h.count, some, length-take 1 w.records)
 ]
 
 -- with no record left all were given to the writer
-pub all_written : {start mid : HostState} {log_start log : LogState} {all rest : List Record} {w : WriterState} → IsWriting start mid log_start log all rest w → rest ≡ [] → Told start (pushed (bytes_of mid log_start.file) w ≡ all)
+pub all_written : {start mid : HostState} {log_start log : LogState} {tables : ℕ} {all rest : List Record} {w : WriterState} → IsWriting start mid log_start log tables all rest w → rest ≡ [] → Told start (pushed (bytes_of mid log_start.file) w ≡ all)
 all_written {mid = mid} {log_start = log_start} {w = w} h none tells = sym (append-nil _) ∙ ap (λ l. pushed (bytes_of mid log_start.file) w ++ l) (sym none) ∙ h.written tells

@@ -1,5 +1,5 @@
 -- Records of a source that are being written to a log as a run.
-use Rattle.std.specs.Prelude.{◌≡◌, ◌≤◌, ◌+◌, ◌*◌, ◌++◌, Bool, false, List, length, Some}
+use Rattle.std.specs.Prelude.{◌≡◌, ◌≤◌, ℕ, ◌+◌, ◌*◌, ◌++◌, Bool, false, List, length, Some}
 use Rattle.std.specs.List.{AllByRecursion}
 use Rattle.dfs_host.specs.Fault.{NoFault}
 use Rattle.dfs_host.specs.Host.{HostState, Told, bytes_of}
@@ -10,15 +10,15 @@ use Rattle.dfs_log.specs.Logs.{LogState, LogStands}
 use Rattle.dfs_table.specs.Appending.{Appends}
 use Rattle.dfs_table.specs.Writer.{AreIn, EndsPass, IsSound, KeyPasses, WriterStands, WriterState, count_in, fences_of, owed, pushed}
 
--- Of these records all but the rest were given to the writer.
-pub record IsWriting (start now : HostState) (log_start log : LogState) (all rest : List Record) (w : WriterState) : Type 0 where
+-- Of these records all but the rest were given to the writer, which may begin so many tables.
+pub record IsWriting (start now : HostState) (log_start log : LogState) (tables : ℕ) (all rest : List Record) (w : WriterState) : Type 0 where
   pub written : Told start (pushed (bytes_of now log_start.file) w ++ rest ≡ all)
   pub stands : Told start (WriterStands (bytes_of now log_start.file) w)
   pub log_stands : Told start (LogStands now log)
   pub sound : IsSound w
   pub above : (key : Key) → first_key rest ≡ Some key → IsAboveLast (last_key w.records) key
   pub count : count_in w + length rest ≡ length all
-  pub tables_left : w.tables_left ≡ 131072
+  pub tables_left : w.tables_left ≡ tables
   pub live : w.spent ≡ false
   pub log_live : log.spent ≡ false
   pub file : AreIn log_start.file w.closed

@@ -25,4 +25,4 @@ pub use run::{Run, Tables};
 pub use run_records::RunRecords;
 pub use table::{BlockBytes, Table};
 pub use writer::TableWriter;
-pub use writing::write_run;
+pub use writing::{write_run, write_tables};

@@ -13,8 +13,8 @@ use Rattle.dfs_table.specs.Stored.{IsStored, run_records}
 use Rattle.dfs_table.specs.Tables.{all_fences}
 use Rattle.dfs_table.specs.Writer.{AreIn, IsSound, KeyPasses, WriterState, WriterStands, pushed}
 use Rattle.dfs_table.proofs.Passing.{end_enough, end_passes, push_passes}
-use Rattle.dfs_table.proofs.Writings.{all_written, appends_on, before_on, next_above, none_left, not_too_many, only_on}
-use Rattle.dfs_table.proofs.writing.write_run.Goals as goal
+use Rattle.dfs_table.proofs.Writings.{all_written, appends_on, before_on, next_above, none_left, too_many, only_on}
+use Rattle.dfs_table.proofs.writing.write_tables.Goals as goal
 
 pub loop-rec-preserved : goal.loop-rec-preserved
 loop-rec-preserved g c =
@@ -54,14 +54,17 @@ loop-rec-preserved g c =
     }
 
 pub returns-in_err-push-clause-full : goal.returns-in_err-push-clause-full
-returns-in_err-push-clause-full g c =
-    let p = err_from_is_err_and c.from_residual.result c.from_residual.ensures.1 in (
-      λ is. elim (c.push.ensures.full (cc (is, c.in_err-push.was, p.1, p.2))) [
-        | inl some ↦ some
-        | inr many ↦ absurd (not_too_many c.loop-rec.invariant c.requires.few (omega (arith, ap length c.in-Item.ensures.1.1)) _ many)
-      ],
-      λ some. cc (c.push.ensures.refused some, c.in_err-push.was, p.1, p.2),
-    )
+returns-in_err-push-clause-full g c is =
+    let p = err_from_is_err_and c.from_residual.result c.from_residual.ensures.1 in
+    elim (c.push.ensures.full (cc (is, c.in_err-push.was, p.1, p.2))) [
+      | inl some ↦ inl some
+      | inr many ↦ inr (too_many c.loop-rec.invariant (omega (arith, ap length c.in-Item.ensures.1.1)) _ many)
+    ]
+
+pub returns-in_err-push-clause-refused : goal.returns-in_err-push-clause-refused
+returns-in_err-push-clause-refused g c some =
+    let p = err_from_is_err_and c.from_residual.result c.from_residual.ensures.1 in
+    cc (c.push.ensures.refused some, c.in_err-push.was, p.1, p.2)
 
 pub returns-in_err-push-clause-before : goal.returns-in_err-push-clause-before
 returns-in_err-push-clause-before g c =

@@ -49,17 +49,23 @@ never_done c Last has e = absurd (cc e)
 never_done c Range has e = has
 never_done c Done has e = has
 
+-- of the new element and the others
+pub set_at : {A : Type 0} (xs : List A) (index : ℕ) (v : A) (P : ℕ → A → Type 0) → P index v → ((i : ℕ) (x : A) → slice_get xs i ≡ Some x → P i x)
+    → (i : ℕ) (x : A) → slice_get (slice_set xs index v) i ≡ Some x → P i x
+set_at xs index v P here each i x at = by (i == index) refl
+  where
+    by : (b : Bool) → (i == index) ≡ b → P i x
+    by true e =
+        let same = eqb-true i index e in
+        let new : v ≡ x = set_here xs index v x (subst (λ n. slice_get (slice_set xs index v) n ≡ Some x) same at) in
+        subst (λ n. P n x) (sym same) (subst (P index) new here)
+    by false e = each i x (sym (set_other xs index i v (λ same. eqb-false i index e same)) ∙ at)
+
 -- of the new part and the others
 pub set_each : (ms : List (Option Run)) (index : ℕ) (run : Run) (P : ℕ → Run → Type 0) → P index run → ((i : ℕ) (r : Run) → slice_get ms i ≡ Some (Some r) → P i r)
     → (i : ℕ) (r : Run) → slice_get (slice_set ms index (Some run)) i ≡ Some (Some r) → P i r
-set_each ms index run P here each i r at = by (i == index) refl
-  where
-    by : (b : Bool) → (i == index) ≡ b → P i r
-    by true e =
-        let same = eqb-true i index e in
-        let new : run ≡ r = same_Some run r (set_here ms index (Some run) (Some r) (subst (λ n. slice_get (slice_set ms index (Some run)) n ≡ Some (Some r)) same at)) in
-        subst (λ n. P n r) (sym same) (subst (P index) new here)
-    by false e = each i r (sym (set_other ms index i (Some run) (λ same. eqb-false i index e same)) ∙ at)
+set_each ms index run P here each i r at =
+    set_at ms index (Some run) (λ (j : ℕ) (m : Option Run). (q : Run) → m ≡ Some q → P j q) (λ q is. subst (P index) (same_Some run q is) here) (λ j m at q is. each j q (at ∙ ap (λ (o : Option Run). Some o) is)) i (Some r) at r refl
 
 pub set_length : {A : Type 0} (xs : List A) (i : ℕ) (v : A) → length (slice_set xs i v) ≡ length xs
 set_length [] i v = refl
@@ -81,7 +87,7 @@ set_all P (m ∷ ms) (suc i) run new all =
 
 -- ---- what was stored in a file stays when the file grows
 
-stored_on : (old new : List ℕ) (n : ℕ) (run : Run) (d : Delta) → take n new ≡ old → IsStored old run d → IsStored new run d
+pub stored_on : (old new : List ℕ) (n : ℕ) (run : Run) (d : Delta) → take n new ≡ old → IsStored old run d → IsStored new run d
 stored_on old new n run d kept stored =
     let all : old ++ drop n new ≡ new = ap (λ l. l ++ drop n new) (sym kept) ∙ take-append-drop n new in
     record {

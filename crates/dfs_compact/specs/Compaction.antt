@@ -1,5 +1,5 @@
 -- What a compaction is seen as, and what it is to stand on files.
-use Rattle.std.specs.Prelude.{◌≡◌, ◌≤◌, ◌+◌, ◌*◌, ℕ, Bool, List, Option, Some, IsSome, IsSomeAnd, length, slice_get, slice_set}
+use Rattle.std.specs.Prelude.{◌≡◌, ◌≤◌, ◌<◌, ◌+◌, ◌*◌, ℕ, Bool, List, Option, Some, IsSome, IsSomeAnd, length, slice_get, slice_set}
 use Rattle.std.specs.List.{AllByRecursion}
 use Rattle.std.specs.List.Sorted.{IsPermutation}
 use Rattle.dfs_record.specs.declared.Key.{Key}
@@ -63,6 +63,11 @@ HasOutcome c Last = AreMerged c
 HasOutcome c Range = ⊥
 HasOutcome c Done = ⊥
 
+-- The sources have so many records that 131,072 tables may not hold them: each full one has 4,096 blocks, and each part one table at
+-- most that is not full.
+abbrev pub IsOverfull : CompactionState → Type 0
+IsOverfull c = 536870912 < count_all c.sources + 4095 * c.parts
+
 -- The part became this run, and nothing else changed.
 pub record IsAdded (old new : CompactionState) (i : ℕ) : Type 0 where
   pub run : Run
@@ -81,5 +86,5 @@ pub record IsCompaction (sources : List Run) (keys : List Key) (parts : ℕ) (me
   pub len : length merged ≡ parts
   pub plan : IsPlan keys parts
   pub firsts : IsPermutation (first_keys sources) keys
-  pub few : count_all sources ≤ 536870912
+  pub tables : length (tables_of merged) ≤ 131072
   pub each : (i : ℕ) (run : Run) → slice_get merged i ≡ Some (Some run) → IsPartOf sources keys parts i run

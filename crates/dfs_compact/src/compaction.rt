@@ -1,6 +1,6 @@
 //! Compactions.
 
-ghost use Rattle.std.specs.Prelude.{◌≡◌, ◌≤◌, ◌<◌, ◌+◌, ◌*◌, ◌++◌, ◌∷◌, ◌↔◌, [], ℕ, List, length, take, map, replicate, slice_get, slice_set, vec_capacity, IsFalse, IsTrue, IsErrOf, IfOk, OnOk, OnErr};
+ghost use Rattle.std.specs.Prelude.{◌≡◌, ◌≤◌, ◌<◌, ◌+◌, ◌*◌, ◌++◌, ◌∷◌, ◌⊎◌, ◌↔◌, [], ℕ, List, length, take, map, replicate, slice_get, slice_set, vec_capacity, IsFalse, IsTrue, IsErrOf, IfOk, OnOk, OnErr};
 ghost use Rattle.std.specs.List.Sorted.{IsPermutation};
 ghost use Rattle.dfs_host.specs.Fault.{HasFaultCause};
 ghost use Rattle.dfs_host.specs.Host.{Told, bytes_of, Only};
@@ -16,7 +16,7 @@ ghost use Rattle.dfs_table.specs.Stored.{IsStored};
 ghost use Rattle.dfs_table.specs.Tables.{all_fences};
 ghost use Rattle.dfs_table.specs.Writer.{AreIn};
 ghost use Rattle.dfs_compact.specs.Parts.{AreSources, count_all, first_keys, tables_in, tables_of};
-ghost use Rattle.dfs_compact.specs.Compaction.{AreMerged, HasOutcome, IsAdded, IsMerged, IsPartOf, IsRefusal, IsWritten, Stands};
+ghost use Rattle.dfs_compact.specs.Compaction.{AreMerged, HasOutcome, IsAdded, IsMerged, IsOverfull, IsPartOf, IsRefusal, IsWritten, Stands};
 
 use crate::keys::keys_of;
 use crate::sources::write_part;
@@ -28,6 +28,9 @@ use dfs_table::{Run, Table, Tables};
 use std::alloc::Global;
 use std::marker::Model;
 use std::rc::Rc;
+
+// The most tables of a run.
+const MOST_TABLES: usize = 131_072;
 
 /// What became of a call of `Compaction::part`.
 #[derive(Debug, Clone, Copy, PartialEq, Eq, Drop)]
@@ -71,8 +74,6 @@ impl Compaction {
     pub fn begin(alloc: Global, sources: Vec<Rc<Run>>, parts: u16) -> Result<Compaction, NoMemory>
         requires some { 1 ≤ parts }
         requires most { parts ≤ 256 }
-        // So many records fit into the tables of one run, each alone in its block.
-        requires few { count_all (map (λ r. r.value) sources.items) ≤ 536870912 }
 
         ensures sources { IfOk result (λ c. c.sources ≡ map (λ r. r.value) sources.items) }
         ensures parts { IfOk result (λ c. c.parts ≡ parts) }
@@ -132,15 +133,20 @@ impl Compaction {
         ensures before { Told (H.state host.old) (take log.old.len (bytes_of (H.state host.new) log.old.file) ≡ bytes_of (H.state host.old) log.old.file) }
         ensures log_same { (log.new.file ≡ log.old.file) × (log.new.limit ≡ log.old.limit) }
 
-        // `LogFull` exactly where the log refused a piece.
-        ensures full { IsErrOf result Fault.LogFull ↔ (0 < log.new.refused) }
+        // `LogFull` exactly where the log refused a piece or the run of all parts would pass 131,072 tables: of the records that are
+        // still to be merged there are more than its other tables have blocks.
+        ensures full { IsErrOf result Fault.LogFull → (0 < log.new.refused) ⊎ (536870912 < 4096 * length (tables_of self.old.merged) + count_all self.old.sources) }
+        ensures overfull { (ds : List Delta) → Told (H.state host.old) (Stands (bytes_of (H.state host.old)) log.old.file self.old ds → IsErrOf result Fault.LogFull → (0 < log.new.refused) ⊎ IsOverfull self.old) }
+        ensures refuses { 0 < log.new.refused → IsErrOf result Fault.LogFull }
         ensures over { 0 < log.new.refused → log.new.limit < log.new.len + log.new.refused }
 
         // A record of the part costs the log at most 1,100 bytes, and a part has at most as many as the sources.
-        ensures growth { IfOk result (λ done. IsWritten done → (run : AnyRun) → slice_get self.new.merged part ≡ Some (Some run) → log.new.len ≤ log.old.len + 1100 * count_of (all_fences run.tables)) }
+        ensures growth { OnOk result (log.new.len + 1100 * count_of (all_fences (tables_of self.old.merged)) ≤ log.old.len + 1100 * count_of (all_fences (tables_of self.new.merged))) }
         ensures most { IfOk result (λ done. IsWritten done → (run : AnyRun) → slice_get self.new.merged part ≡ Some (Some run) → count_of (all_fences run.tables) ≤ count_all self.old.sources) }
         // All parts together have at most as many as well, wherever the compaction stands.
         ensures most_of_all { IfOk result (λ done. IsWritten done → (files : Files) (file : ℕ) (ds : List Delta) → Stands files file self.new ds → count_of (all_fences (tables_of self.new.merged)) ≤ count_all self.new.sources) }
+        // A record of all parts costs it so much once, those of a part that failed counted.
+        ensures growth_of_all { (ds : List Delta) → Told (H.state host.old) (Stands (bytes_of (H.state host.old)) log.old.file self.old ds → log.new.len + log.new.refused + 1100 * count_of (all_fences (tables_of self.old.merged)) ≤ log.old.len + 1100 * count_all self.old.sources) }
         ensures growth_at_most { log.new.len + log.new.refused ≤ log.old.len + 1100 * count_all self.old.sources }
 
         ensures never_changed { (file at : ℕ) → IsErrOf result (Fault.Changed file at) → ⊥ }
@@ -158,7 +164,8 @@ impl Compaction {
             return Ok(Parted::Done);
         }
         self.spent = true;
-        let run = write_part(alloc, host, log, &self.sources, &self.plan, index as u16)?;
+        let left = (MOST_TABLES - self.tables) as u32;
+        let run = write_part(alloc, host, log, &self.sources, &self.plan, index as u16, left)?;
         let Ok(()) = self.keep(index, run) else {
             return Err(Fault::NoMemory);
         };
@@ -179,8 +186,9 @@ impl Compaction {
         ensures replays { (files : Files) (file : ℕ) (ds : List Delta) (d : Delta) → Stands files file self ds → IsStored (files file) result d → (below above : List Delta) (rs : List OwnRecord) → replay (below ++ ds ++ above) rs ≡ replay (below ++ d ∷ [] ++ above) rs }
 
         ensures most { (files : Files) (file : ℕ) (ds : List Delta) → Stands files file self ds → count_of (all_fences result.tables) ≤ count_all self.sources }
+        ensures few { length result.tables ≤ 131072 }
         // Each part has one table at most that is not full.
-        ensures few { 4096 * length result.tables ≤ count_of (all_fences result.tables) + 4095 * self.parts }
+        ensures enough { 4096 * length result.tables ≤ count_of (all_fences result.tables) + 4095 * self.parts }
     {
         Run {
             tables: Tables::from_vec(join(self.room, self.merged)),
@@ -190,13 +198,12 @@ impl Compaction {
     // Keeps what the part was merged to, and takes room for its tables.
     fn keep(&mut self, index: usize, run: Run) -> Result<(), NoMemory>
         requires within { slice_get self.old.merged index ≡ Some None }
+        requires few { length (tables_of self.old.merged) + length run.tables ≤ 131072 }
         requires part { IsPartOf self.old.sources self.old.keys self.old.parts index run }
         ensures kept { OnOk result (self.new ≡ record self.old { merged = slice_set self.old.merged index (Some run) }) }
         ensures unchanged { OnErr result (self.new ≡ self.old) }
     {
-        let Some(tables) = self.tables.checked_add(run.tables.len()) else {
-            return Err(NoMemory);
-        };
+        let tables = self.tables + run.tables.len();
         self.room.reserve(tables)?;
         self.merged[index] = Some(run);
         self.tables = tables;

@@ -1,6 +1,6 @@
 //! A part of the sources, merged.
 
-ghost use Rattle.std.specs.Prelude.{◌≡◌, ◌≤◌, ◌<◌, ◌+◌, ◌*◌, ◌↔◌, ℕ, List, length, take, map, IsFalse, IsErrOf, IfOk, OnOk, option_copied};
+ghost use Rattle.std.specs.Prelude.{◌≡◌, ◌≤◌, ◌<◌, ◌+◌, ◌*◌, ◌⊎◌, ℕ, List, length, take, map, IsFalse, IsErrOf, IfOk, OnOk, option_copied};
 ghost use Rattle.std.specs.List.{AllByRecursion, sum_by};
 ghost use Rattle.dfs_host.specs.Fault.{HasFaultCause};
 ghost use Rattle.dfs_host.specs.Host.{Told, bytes_of, Only};
@@ -21,14 +21,14 @@ use dfs_log::LogWriter;
 use dfs_merge::Merge;
 use dfs_plan::Plan;
 use dfs_record::{Key, NoMemory, Records};
-use dfs_table::{Run, RunRecords, write_run};
+use dfs_table::{Run, RunRecords, write_tables};
 use std::alloc::Global;
 use std::rc::Rc;
 
 // A part of a run.
 type Source<'a> = RangeRecords<'a, RunRecords<'a>>;
 
-/// Writes the merged records of a part of the sources to the log, as a run.
+/// Writes the merged records of a part of the sources to the log, as a run of at most so many tables.
 pub(crate) fn write_part<H: Host>(
     alloc: Global,
     host: &mut H,
@@ -36,9 +36,9 @@ pub(crate) fn write_part<H: Host>(
     sources: &[Rc<Run>],
     plan: &Plan,
     part: u16,
+    tables_left: u32,
 ) -> Result<Run, Fault>
     requires part { part < plan.now.parts }
-    requires few { count_all (map (λ r. r.value) sources.now) ≤ 536870912 }
     requires live { IsFalse log.old.spent }
     requires stands { Told (H.state host.old) (LogStands (H.state host.old) log.old) }
 
@@ -50,9 +50,14 @@ pub(crate) fn write_part<H: Host>(
     ensures log { Told (H.state host.old) (OnOk result (LogStands (H.state host.new) log.new)) }
     ensures live { OnOk result (IsFalse log.new.spent) }
     ensures before { Told (H.state host.old) (take log.old.len (bytes_of (H.state host.new) log.old.file) ≡ bytes_of (H.state host.old) log.old.file) }
-    ensures full { IsErrOf result Fault.LogFull ↔ (0 < log.new.refused) }
+    ensures few { IfOk result (λ run. length run.tables ≤ tables_left) }
+    // `LogFull` exactly where the log refused a piece or one table too many would be begun, which so many records do not need.
+    ensures full { IsErrOf result Fault.LogFull → (0 < log.new.refused) ⊎ (4096 * tables_left < count_all (map (λ r. r.value) sources.now)) }
+    ensures too_many { (ds : List Delta) → Told (H.state host.old) (AreSources (bytes_of (H.state host.old)) (map (λ r. r.value) sources.now) ds → IsErrOf result Fault.LogFull → (0 < log.new.refused) ⊎ (4096 * tables_left < length (merged_part (boundary plan.now.keys plan.now.parts part) (boundary plan.now.keys plan.now.parts (part + 1)) ds))) }
+    ensures refused { 0 < log.new.refused → IsErrOf result Fault.LogFull }
     ensures over { 0 < log.new.refused → log.new.limit < log.new.len + log.new.refused }
     ensures growth { IfOk result (λ run. log.new.len + log.new.refused ≤ log.old.len + 1100 * count_of (all_fences run.tables)) }
+    ensures growth_of_part { (ds : List Delta) → Told (H.state host.old) (AreSources (bytes_of (H.state host.old)) (map (λ r. r.value) sources.now) ds → log.new.len + log.new.refused ≤ log.old.len + 1100 * length (merged_part (boundary plan.now.keys plan.now.parts part) (boundary plan.now.keys plan.now.parts (part + 1)) ds)) }
     ensures growth_at_most { log.new.len + log.new.refused ≤ log.old.len + 1100 * count_all (map (λ r. r.value) sources.now) }
     ensures never_changed { (file at : ℕ) → IsErrOf result (Fault.Changed file at) → ⊥ }
     ensures only { Only log.old.file (H.state host.old) (H.state host.new) }
@@ -65,7 +70,7 @@ pub(crate) fn write_part<H: Host>(
     let Ok(records) = merged(alloc, sources, low, high) else {
         return Err(Fault::NoMemory);
     };
-    write_run(alloc, host, log, records)
+    write_tables(alloc, host, log, records, tables_left)
 }
 
 // The merged records of the sources from one key up to, not with, another.

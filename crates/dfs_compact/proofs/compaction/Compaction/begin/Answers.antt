@@ -18,7 +18,7 @@ invariant_of-result c =
         len = ap length none ∙ length-replicate c.args.parts _ ∙ sym parts;
         plan = record { sorted = c.in_ok-plan.ensures.sorted; some = omega (arith, parts, c.requires.some); most = omega (arith, parts, c.requires.most) };
         firsts = subst (λ (keys : List Key). IsPermutation keys c.in_ok-plan.plan.keys) (c.in_ok-keys_of.ensures ∙ ap (λ (rs : List (Rc Run Global)). first_keys (map (λ r. r.value) rs)) c.deref.ensures.value) c.in_ok-plan.ensures.keys;
-        few = c.requires.few;
+        tables = omega (arith, ap (λ (ms : List (Option Run)). length (tables_of ms)) none, ap length (none_have c.args.parts));
         each = λ i run at. absurd (none_at c.args.parts i run (subst (λ (ms : List (Option Run)). slice_get ms i ≡ Some (Some run)) none at));
       },
       ap (λ (ms : List (Option Run)). length (tables_of ms)) none ∙ ap length (none_have c.args.parts),

@@ -1,6 +1,7 @@
-use Rattle.std.proofs.Common.{◌≡◌, ◌∙◌, sym, ap, subst, arith, map}
+use Rattle.std.proofs.Common.{◌≡◌, ◌∙◌, sym, ap, subst, arith, length, map}
 use Rattle.std.specs.Prelude.{Some, None, slice_get}
 use Rattle.dfs_compact.specs.Compaction.{CompactionState, IsPartOf}
+use Rattle.dfs_compact.specs.Parts.{tables_of}
 use Rattle.dfs_compact.proofs.Staying.{set_each, set_length, set_tables}
 use Rattle.dfs_compact.proofs.compaction.Compaction.keep.Goals as goal
 
@@ -16,10 +17,10 @@ invariant_of-self-2 c =
         len = set_length self.merged.items c.args.index (Some c.args.run) ∙ is.len;
         plan = is.plan;
         firsts = is.firsts;
-        few = is.few;
+        tables = omega (arith, set_tables self.merged.items c.args.index c.args.run there, ap (λ (s : CompactionState). length (tables_of s.merged)) view, c.requires.few);
         each = set_each self.merged.items c.args.index c.args.run (λ i r. IsPartOf runs self.plan.keys self.plan.parts i r) part is.each;
       },
-      omega (arith, set_tables self.merged.items c.args.index c.args.run there, c.self.invariant.1, c.in-Some.ensures, c.len.ensures.len),
+      omega (arith, set_tables self.merged.items c.args.index c.args.run there, c.self.invariant.1, c.len.ensures.len),
       c.in_ok-reserve.ensures.items ∙ c.self.invariant.2,
       omega (arith, c.in_ok-reserve.ensures.ok),
     )

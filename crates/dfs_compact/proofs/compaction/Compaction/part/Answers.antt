@@ -1,4 +1,4 @@
-use Rattle.std.proofs.Common.{◌≡◌, ◌∙◌, refl, sym, ap, subst, arith, map, List, true, false, Global}
+use Rattle.std.proofs.Common.{inl, inr, ◌≡◌, ◌∙◌, refl, sym, ap, subst, arith, map, List, true, false, Global}
 use Rattle.std.specs.declared.rc.Rc.{Rc}
 use Rattle.dfs_host.specs.Host.{bytes_of}
 use Rattle.std.specs.Prelude.{Some, Option, slice_get}
@@ -11,7 +11,8 @@ use Rattle.dfs_table.specs.Tables.{all_fences}
 use Rattle.dfs_table.specs.Writer.{AreIn}
 use Rattle.dfs_compact.specs.Compaction.{CompactionState, IsMerged, Stands}
 use Rattle.dfs_compact.specs.Parts.{AreSources, count_all, tables_of}
-use Rattle.dfs_compact.proofs.Counting.{few_in_all}
+use Rattle.dfs_compact.proofs.Counting.{few_in_all, few_with_next, set_counted}
+use Rattle.dfs_compact.proofs.Covering.{join_few}
 use Rattle.dfs_compact.proofs.Staying.{merged_there, never_done, none_there, not_merged, set_all, set_here, stands_on, stands_still}
 use Rattle.dfs_compact.proofs.compaction.Compaction.part.Goals as goal
 
@@ -52,10 +53,16 @@ returns-clause-file g c =
     subst (λ (ms : List (Option Run)). AreIn file (tables_of ms)) (sym same) (set_all (λ (t : Table). t.file ≡ file) c.self.inside.merged.items c.args.part c.in_ok-run.run' c.in_ok-run.ensures.file before)
 
 pub returns-clause-growth : goal.returns-clause-growth
-returns-clause-growth g c = λ written run at.
+returns-clause-growth g c =
     let same = ap (λ (s : CompactionState). s.merged) (c.self-2.view_is ∙ c.in-Ok.ensures.kept) in
-    let here = set_here c.self.inside.merged.items c.args.part (Some c.in_ok-run.run') (Some run) (subst (λ (ms : List (Option Run)). slice_get ms c.args.part ≡ Some (Some run)) same at) in
-    omega (arith, c.in_ok-run.ensures.growth, ap (λ (r : Run). count_of (all_fences r.tables)) (same_Some c.in_ok-run.run' run here))
+    let there = none_there c.self.inside.merged.items c.args.part c.index.result.now (omega (arith, c.if-part-len.false, c.len-2.ensures)) c.index.ensures (sym c.is_some.ensures ∙ c.if-is_some.false) in
+    omega (
+      arith,
+      c.in_ok-run.ensures.growth,
+      ap (λ (ms : List (Option Run)). count_of (all_fences (tables_of ms))) same,
+      set_counted c.self.inside.merged.items c.args.part c.in_ok-run.run' there,
+      ap (λ (s : CompactionState). count_of (all_fences (tables_of s.merged))) c.self.view_is,
+    )
 
 pub returns-clause-most : goal.returns-clause-most
 returns-clause-most g c = λ written run at.
@@ -86,3 +93,67 @@ returns-in_err-run-clause-done g c =
       λ e. absurd (cc (e, p.1)),
       λ merged. absurd (not_merged c.self.inside.merged.items c.args.part there (subst (λ (s : CompactionState). IsMerged s c.args.part) (sym c.self.view_is) merged)),
     )
+
+pub returns-then-part-len-clause-growth_of_all : goal.returns-then-part-len-clause-growth_of_all
+returns-then-part-len-clause-growth_of_all g c = λ ds tells stands.
+    let self = c.self.inside in
+    let state : CompactionState = record { sources = map (λ r. r.value) self.sources.items; keys = self.plan.keys; parts = self.plan.parts; merged = self.merged.items; spent = self.spent } in
+    let files = bytes_of (g.H.Host.state c.args.host.now) in
+    let start = subst (λ (s : CompactionState). Stands files c.args.log.now.file s ds) (sym c.self.view_is) stands in
+    omega (arith, few_in_all files c.args.log.now.file state ds c.self.invariant.0 start, c.len.ensures.sound.none_refused c.requires.log_live, ap (λ (s : CompactionState). count_of (all_fences (tables_of s.merged))) c.self.view_is, ap (λ (s : CompactionState). count_all s.sources) c.self.view_is)
+
+pub returns-then-is_some-clause-growth_of_all : goal.returns-then-is_some-clause-growth_of_all
+returns-then-is_some-clause-growth_of_all g c = λ ds tells stands.
+    let self = c.self.inside in
+    let state : CompactionState = record { sources = map (λ r. r.value) self.sources.items; keys = self.plan.keys; parts = self.plan.parts; merged = self.merged.items; spent = self.spent } in
+    let files = bytes_of (g.H.Host.state c.args.host.now) in
+    let start = subst (λ (s : CompactionState). Stands files c.args.log.now.file s ds) (sym c.self.view_is) stands in
+    omega (arith, few_in_all files c.args.log.now.file state ds c.self.invariant.0 start, c.len.ensures.sound.none_refused c.requires.log_live, ap (λ (s : CompactionState). count_of (all_fences (tables_of s.merged))) c.self.view_is, ap (λ (s : CompactionState). count_all s.sources) c.self.view_is)
+
+pub returns-in_err-run-clause-growth_of_all : goal.returns-in_err-run-clause-growth_of_all
+returns-in_err-run-clause-growth_of_all g c = λ ds tells stands.
+    let self = c.self.inside in
+    let state : CompactionState = record { sources = map (λ r. r.value) self.sources.items; keys = self.plan.keys; parts = self.plan.parts; merged = self.merged.items; spent = self.spent } in
+    let files = bytes_of (g.H.Host.state c.args.host.now) in
+    let start = subst (λ (s : CompactionState). Stands files c.args.log.now.file s ds) (sym c.self.view_is) stands in
+    let there = none_there c.self.inside.merged.items c.args.part c.index.result.now (omega (arith, c.if-part-len.false, c.len-2.ensures)) c.index.ensures (sym c.is_some.ensures ∙ c.if-is_some.false) in
+    let sources = subst (λ (rs : List (Rc Run Global)). AreSources files (map (λ r. r.value) rs) ds) (sym c.deref.ensures.value) start.sources in
+    let next = few_with_next files c.args.log.now.file state ds c.self.invariant.0 start c.args.part there in
+    omega (arith, next, c.in_err-run.ensures.growth_of_part ds tells sources, ap (λ (s : CompactionState). count_of (all_fences (tables_of s.merged))) c.self.view_is, ap (λ (s : CompactionState). count_all s.sources) c.self.view_is)
+
+pub returns-in_default-clause-growth_of_all : goal.returns-in_default-clause-growth_of_all
+returns-in_default-clause-growth_of_all g c = λ ds tells stands.
+    let self = c.self.inside in
+    let state : CompactionState = record { sources = map (λ r. r.value) self.sources.items; keys = self.plan.keys; parts = self.plan.parts; merged = self.merged.items; spent = self.spent } in
+    let files = bytes_of (g.H.Host.state c.args.host.now) in
+    let start = subst (λ (s : CompactionState). Stands files c.args.log.now.file s ds) (sym c.self.view_is) stands in
+    let there = none_there c.self.inside.merged.items c.args.part c.index.result.now (omega (arith, c.if-part-len.false, c.len-2.ensures)) c.index.ensures (sym c.is_some.ensures ∙ c.if-is_some.false) in
+    let sources = subst (λ (rs : List (Rc Run Global)). AreSources files (map (λ r. r.value) rs) ds) (sym c.deref.ensures.value) start.sources in
+    let next = few_with_next files c.args.log.now.file state ds c.self.invariant.0 start c.args.part there in
+    omega (arith, next, c.in_ok-run.ensures.growth_of_part ds tells sources, ap (λ (s : CompactionState). count_of (all_fences (tables_of s.merged))) c.self.view_is, ap (λ (s : CompactionState). count_all s.sources) c.self.view_is)
+
+pub returns-clause-growth_of_all : goal.returns-clause-growth_of_all
+returns-clause-growth_of_all g c = λ ds tells stands.
+    let self = c.self.inside in
+    let state : CompactionState = record { sources = map (λ r. r.value) self.sources.items; keys = self.plan.keys; parts = self.plan.parts; merged = self.merged.items; spent = self.spent } in
+    let files = bytes_of (g.H.Host.state c.args.host.now) in
+    let start = subst (λ (s : CompactionState). Stands files c.args.log.now.file s ds) (sym c.self.view_is) stands in
+    let there = none_there c.self.inside.merged.items c.args.part c.index.result.now (omega (arith, c.if-part-len.false, c.len-2.ensures)) c.index.ensures (sym c.is_some.ensures ∙ c.if-is_some.false) in
+    let sources = subst (λ (rs : List (Rc Run Global)). AreSources files (map (λ r. r.value) rs) ds) (sym c.deref.ensures.value) start.sources in
+    let next = few_with_next files c.args.log.now.file state ds c.self.invariant.0 start c.args.part there in
+    omega (arith, next, c.in_ok-run.ensures.growth_of_part ds tells sources, ap (λ (s : CompactionState). count_of (all_fences (tables_of s.merged))) c.self.view_is, ap (λ (s : CompactionState). count_all s.sources) c.self.view_is)
+
+pub returns-in_err-run-clause-overfull : goal.returns-in_err-run-clause-overfull
+returns-in_err-run-clause-overfull g c = λ ds tells stands is.
+    let self = c.self.inside in
+    let state : CompactionState = record { sources = map (λ r. r.value) self.sources.items; keys = self.plan.keys; parts = self.plan.parts; merged = self.merged.items; spent = self.spent } in
+    let files = bytes_of (g.H.Host.state c.args.host.now) in
+    let start = subst (λ (s : CompactionState). Stands files c.args.log.now.file s ds) (sym c.self.view_is) stands in
+    let there = none_there c.self.inside.merged.items c.args.part c.index.result.now (omega (arith, c.if-part-len.false, c.len-2.ensures)) c.index.ensures (sym c.is_some.ensures ∙ c.if-is_some.false) in
+    let sources = subst (λ (rs : List (Rc Run Global)). AreSources files (map (λ r. r.value) rs) ds) (sym c.deref.ensures.value) start.sources in
+    let next = few_with_next files c.args.log.now.file state ds c.self.invariant.0 start c.args.part there in
+    let p = err_from_is_err_and c.from_residual.result c.from_residual.ensures.1 in
+    elim (c.write_part.ensures.too_many ds tells sources (cc (is, c.in_err-run.was, p.1, p.2))) [
+      | inl some ↦ inl some
+      | inr many ↦ inr (omega (arith, many, next, join_few self.merged.items (λ j run at. (c.self.invariant.0.each j run at).enough), c.self.invariant.0.len, c.self.invariant.1, c.self.invariant.0.tables, ap (λ (s : CompactionState). count_of (all_fences (tables_of s.merged))) c.self.view_is, ap (λ (s : CompactionState). count_all s.sources) c.self.view_is, ap (λ (s : CompactionState). s.parts) c.self.view_is))
+    ]

@@ -41,7 +41,10 @@ returns-clause-most c = λ files file ds stands.
     omega (arith, few, ap (λ (ts : List Table). count_of (all_fences ts)) (c.from_vec.ensures ∙ c.join.ensures), ap (λ (s : CompactionState). count_all s.sources) c.self.view_is)
 
 pub returns-clause-few : goal.returns-clause-few
-returns-clause-few c =
+returns-clause-few c = omega (arith, ap length (c.from_vec.ensures ∙ c.join.ensures), c.self.invariant.0.tables)
+
+pub returns-clause-enough : goal.returns-clause-enough
+returns-clause-enough c =
     let self = c.self.inside in
     let is = c.self.invariant.0 in
     let same = c.from_vec.ensures ∙ c.join.ensures in

@@ -1,6 +1,6 @@
 -- A job stands as it did where none of its files was written.
 use Rattle.std.proofs.Common.{◌≡◌, ◌≢◌, ℕ, List, [], ◌∷◌, length, take, sym, ap, subst}
-use Rattle.std.specs.Prelude.{IsTrue}
+use Rattle.std.specs.Prelude.{Option, Some, None, IsTrue}
 use Rattle.std.specs.List.{AllByRecursion, AllZip}
 use Rattle.dfs_host.specs.Host.{HostState, Only, bytes_of}
 use Rattle.dfs_record.specs.Delta.{Delta}
@@ -11,8 +11,9 @@ use Rattle.dfs_table.specs.Stored.{IsStored, IsTableOf}
 use Rattle.dfs_table.proofs.Stays.{all_weaker}
 use Rattle.dfs_view.specs.Layers.{AreStored, LiesIn, own_runs, selected}
 use Rattle.dfs_job.specs.declared.job.Job.{Job as LiveJob}
-use Rattle.dfs_job.specs.Job.{Job}
-use Rattle.dfs_job.specs.Stands.{IsSelectable, IsStoredFor, JobStands}
+use Rattle.dfs_job.specs.declared.planning.UnderWay.{UnderWay}
+use Rattle.dfs_job.specs.Job.{Job, Plan, covered_changes}
+use Rattle.dfs_job.specs.Stands.{IsSelectable, IsStoredFor, JobStands, PartsAreStored, PlansStand}
 use Rattle.dfs_job.proofs.Seen.{basis_lies, own_lie, stand_from}
 
 -- every file but this one reads as before
@@ -55,17 +56,26 @@ basis_lies_still : (old new : HostState) (cs : List Change) → AllByRecursion (
 basis_lies_still old new [] same lies = tt
 basis_lies_still old new (c ∷ cs) same lies = (lies_apart old new c.listed.job c.run.value same.0 lies.0, basis_lies_still old new cs same.1 lies.1)
 
+plans_still : (old new : HostState) (file : ℕ) (j : Job) (o : Option UnderWay) (q : Option Plan) → bytes_of new file ≡ bytes_of old file → PlansStand old file j o q → PlansStand new file j o q
+plans_still old new file j None None same stand = tt
+plans_still old new file j None (Some p) same stand = absurd stand
+plans_still old new file j (Some u) None same stand = absurd stand
+plans_still old new file j (Some u) (Some p) same stand = record { scope = stand.scope; covered = stand.covered; merged = stand.merged; parts = subst (λ b. PartsAreStored b u.compaction (covered_changes p j)) (sym same) stand.parts }
+
 pub stands_still : (old new : HostState) (live : LiveJob) (j : Job) → bytes_of new live.layers.log.file ≡ bytes_of old live.layers.log.file → AllByRecursion (ReadsSame old new) (selected live.layers) → JobStands old live j → JobStands new live j
 stands_still old new live j same others stands =
     let layers = live.layers in
     record {
       ids = stands.ids;
       settings = stands.settings;
+      plans = stands.plans;
       stand = stand_from new layers (log_apart old new layers.log same stands.stand.log) (basis_lies_still old new (selected layers) others (basis_lies old layers stands.stand))
           (all_weaker (λ (r : Run). LiesIn old layers.log.file r) (λ (r : Run). LiesIn new layers.log.file r) (own_runs layers) (λ r. lies_apart old new layers.log.file r same) (own_lie old layers stands.stand));
       layers = record { closed = subst (λ b. AreStored b (own_runs layers) j.layers.closed) (sym same) stands.layers.closed; open_ = stands.layers.open_ };
       basis = basis_still old new (selected layers) j.basis others stands.basis;
+      plan = plans_still old new layers.log.file j live.plan j.plan same stands.plan;
       fair = stands.fair;
+      account = stands.account;
     }
 
 -- ---- files but one

@@ -1,7 +1,8 @@
 -- The identities of a job's records.
-use Rattle.std.proofs.Common.{◌≡◌, ◌∙◌, ◌<◌, ℕ, suc, zero, true, List, [], ◌∷◌, refl, sym, ap, subst, arith, append-nil}
+use Rattle.std.proofs.Common.{◌≡◌, ◌∙◌, ◌<◌, ℕ, suc, zero, true, List, [], ◌∷◌, length, refl, sym, ap, subst, arith, append-nil, length-append}
 use Rattle.std.specs.Prelude.{All, flat_map, nat_le}
 use Rattle.std.specs.List.{AllByRecursion, AllZip}
+use Rattle.std.proofs.lemmas.List.{length-take}
 use Rattle.std.proofs.lemmas.Bool.{le-leb, leb-true, and_from, and_parts}
 use Rattle.dfs_host.specs.Host.{HostState}
 use Rattle.dfs_record.specs.declared.DirId.{DirId}
@@ -27,7 +28,7 @@ use Rattle.dfs_view.specs.Lists.{joined}
 use Rattle.dfs_job.specs.declared.settings.Settings.{Settings}
 use Rattle.dfs_job.specs.Job.{Job, after, after_flush, begun, does, first_ids, namespace_of}
 use Rattle.dfs_job.specs.Stands.{IsEarlier, IsFair, IsSelectable, IsStoredFor}
-use Rattle.dfs_job.proofs.Layers.{joined-add, joined-flushed, replay-more}
+use Rattle.dfs_job.proofs.Layers.{added_all, flushed_all, joined-add, joined-flushed, replay-more}
 
 by_recursion : {X : Type 0} (P : X → Type 0) (xs : List X) → All P xs → AllByRecursion P xs
 by_recursion P [] all = tt
@@ -56,9 +57,12 @@ fair_after j op ids is_op fair =
     let o : Outcome = does j op in
     let made = makes_within (namespace_of j) j.ids op ids is_op fair.seen in
     let fit : AllByRecursion (FitsJob j.ids.job) o.records = all_weaker (IsRecordWithin (ids_after j.ids o)) (FitsJob j.ids.job) o.records (within_fits (ids_after j.ids o)) (by_recursion (IsRecordWithin (ids_after j.ids o)) o.records made) in
+    let grown = added_all j.settings.buffer j.layers o.records in
     record {
       seen = subst (IsWithin (ids_after j.ids o)) (sym (seen_after j op)) (leaves_within (namespace_of j) j.ids op ids is_op fair.seen);
       own = subst (AllByRecursion (FitsJob j.ids.job)) (sym (joined-add j.settings.buffer j.layers o.records)) (all_append (FitsJob j.ids.job) (joined j.layers) o.records fair.own fit);
+      basis = fair.basis;
+      few = omega (arith, fair.few, ap length grown.1, length-append j.layers.closed grown.0, grown.2);
     }
 
 -- nothing stands in a directory that was made
@@ -66,10 +70,14 @@ pub fresh_after : (j : Job) (op : Op) → AreIds j.ids → IsOp op → IsFair j 
 fresh_after j op ids is_op fair = subst (λ (m : Namespace). HasNothingIn m (next_id j.ids)) (sym (seen_after j op)) (leaves_empty (namespace_of j) j.ids op ids is_op fair.seen)
 
 pub fair_flushed : (j : Job) → IsFair j → IsFair (after_flush j)
-fair_flushed j fair = record {
-  seen = subst (λ rs. IsWithin j.ids (replay j.basis rs)) (sym (joined-flushed j.layers)) fair.seen;
-  own = subst (AllByRecursion (FitsJob j.ids.job)) (sym (joined-flushed j.layers)) fair.own;
-}
+fair_flushed j fair =
+    let grown = flushed_all j.layers in
+    record {
+      seen = subst (λ rs. IsWithin j.ids (replay j.basis rs)) (sym (joined-flushed j.layers)) fair.seen;
+      own = subst (AllByRecursion (FitsJob j.ids.job)) (sym (joined-flushed j.layers)) fair.own;
+      basis = fair.basis;
+      few = omega (arith, fair.few, ap length grown.1, length-append j.layers.closed grown.0, grown.2);
+    }
 
 -- ---- records of earlier jobs
 
@@ -114,9 +122,21 @@ selected_within host number m (c ∷ cs) (d ∷ ds) earlier selectable zip withi
     subst (IsWithin (first_ids number)) (sym (after-append m (records_of d) (flat_map records_of ds)))
     (selected_within host number (after_records m (records_of d)) cs ds earlier.1 selectable.1 zip.1 (still_within number c.listed.job m d earlier.0 within fit))
 
+fit_later : (number job : ℕ) (d : Delta) → job < number → AreFit job d → AreFit number d
+fit_later number job d below fit = all_weaker (FitsJob job) (FitsJob number) (records_of d) (λ r fits. within_fits (first_ids number) r (fits_within number job r below fits)) fit
+
+selected_fit : (host : HostState) (number : ℕ) (cs : List Change) (ds : List Delta) → AllByRecursion (IsEarlier number) cs → AllByRecursion (IsSelectable host) cs → AllZip (IsStoredFor host) cs ds → AllByRecursion (AreFit number) ds
+selected_fit host number [] [] earlier selectable zip = tt
+selected_fit host number [] (d ∷ ds) earlier selectable zip = absurd zip
+selected_fit host number (c ∷ cs) [] earlier selectable zip = absurd zip
+selected_fit host number (c ∷ cs) (d ∷ ds) earlier selectable zip =
+    (fit_later number c.listed.job d earlier.0 (subst (AreFit c.listed.job) (sym (same_changes host c d selectable.0 zip.0)) selectable.0.own), selected_fit host number cs ds earlier.1 selectable.1 zip.1)
+
 pub fair_begun : (host : HostState) (number : ℕ) (cs : List Change) (ds : List Delta) (settings : Settings) → AllByRecursion (IsEarlier number) cs → AllByRecursion (IsSelectable host) cs → AllZip (IsStoredFor host) cs ds
     → IsFair (begun number ds settings)
 fair_begun host number cs ds settings earlier selectable zip = record {
   seen = subst (λ rs. IsWithin (first_ids number) (after_records empty rs)) (sym (append-nil (flat_map records_of ds))) (selected_within host number empty cs ds earlier selectable zip (empty_within (first_ids number)));
   own = tt;
+  basis = selected_fit host number cs ds earlier selectable zip;
+  few = omega (arith, length-take 1 ds);
 }

@@ -1,5 +1,5 @@
 -- The records of layers, whatever was closed, and what they leave.
-use Rattle.std.proofs.Common.{◌≡◌, ◌∙◌, ◌≤◌, ◌+◌, ◌==◌, ℕ, Bool, true, false, if◌then◌else◌, List, [], ◌∷◌, ◌++◌, length, refl, sym, ap, arith, append_assoc, append-nil}
+use Rattle.std.proofs.Common.{length-append, ◌≡◌, ◌∙◌, ◌≤◌, ◌+◌, ◌==◌, ℕ, Bool, true, false, if◌then◌else◌, List, [], ◌∷◌, ◌++◌, length, refl, sym, ap, arith, append_assoc, append-nil}
 use Rattle.std.specs.Prelude.{flat_map, fold}
 use Rattle.std.specs.List.{AllByRecursion}
 use Rattle.std.specs.declared.cmp.Ordering.{Ordering}
@@ -56,6 +56,32 @@ flushed_closed l = sym (ap (λ x. flat_map (λ (rs : List Record). rs) (flushed 
         by [] is = is
         by (x ∷ xs) is = refl
 
+-- ---- how the closed layers grow
+
+added_one : (limit : ℕ) (l : Layered) (r : Record) → (more : List (List Record)) × ((add_one limit l r).closed ≡ l.closed ++ more) × (length more + length (add_one limit l r).open_ ≤ length l.open_ + 1)
+added_one limit l r = by (length (l.open_ ++ r ∷ []) == limit)
+  where
+    by : (b : Bool)
+        → (more : List (List Record)) × ((if◌then◌else◌ {A = Layered} b (record { closed = l.closed ++ (l.open_ ++ r ∷ []) ∷ []; open_ = [] }) (record { closed = l.closed; open_ = l.open_ ++ r ∷ [] })).closed ≡ l.closed ++ more)
+        × (length more + length (if◌then◌else◌ {A = Layered} b (record { closed = l.closed ++ (l.open_ ++ r ∷ []) ∷ []; open_ = [] }) (record { closed = l.closed; open_ = l.open_ ++ r ∷ [] })).open_ ≤ length l.open_ + 1)
+    by true = ((l.open_ ++ r ∷ []) ∷ [], refl, omega arith)
+    by false = ([], sym (append-nil l.closed), omega (arith, length-append l.open_ (r ∷ [])))
+
+-- closed layers stay in front, and no more come than records
+pub added_all : (limit : ℕ) (l : Layered) (rs : List Record) → (more : List (List Record)) × ((add_all limit l rs).closed ≡ l.closed ++ more) × (length more + length (add_all limit l rs).open_ ≤ length l.open_ + length rs)
+added_all limit l [] = ([], sym (append-nil l.closed), omega arith)
+added_all limit l (r ∷ rs) =
+    let one = added_one limit l r in
+    let all = added_all limit (add_one limit l r) rs in
+    (one.0 ++ all.0, all.1 ∙ ap (λ x. x ++ all.0) one.1 ∙ append_assoc l.closed one.0 all.0, omega (arith, one.2, all.2, length-append one.0 all.0))
+
+pub flushed_all : (l : Layered) → (more : List (List Record)) × ((flushed l).closed ≡ l.closed ++ more) × (length more + length (flushed l).open_ ≤ length l.open_)
+flushed_all l = by l.open_ refl
+  where
+    by : (rs : List Record) → l.open_ ≡ rs → (more : List (List Record)) × ((closed_by rs l).closed ≡ l.closed ++ more) × (length more + length (closed_by rs l).open_ ≤ length l.open_)
+    by [] is = ([], sym (append-nil l.closed), omega arith)
+    by (r ∷ rs) is = ((r ∷ rs) ∷ [], refl, omega (arith, ap length is))
+
 -- ---- what records leave
 
 pub replay-more : (basis : List Delta) (rs ss : List Record) → replay basis (rs ++ ss) ≡ after_records (replay basis rs) ss
@@ -89,7 +115,7 @@ delta_again : (d : Delta) (rs : List Record) → fold with_record d (records_of 
 delta_again d rs = same_map _ _ (λ q.
     get-with_records d (records_of (delta rs)) q ∙ ap (λ o. or_else o (get d q)) (last_of_own (delta rs) q ∙ get-delta rs q) ∙ sym (get-with_records d rs q))
 
-deltas_from : (d : Delta) (ls : List (List Record)) → fold with_record d (flat_map (λ (rs : List Record). records_of (delta rs)) ls) ≡ fold with_record d (flat_map (λ (rs : List Record). rs) ls)
+pub deltas_from : (d : Delta) (ls : List (List Record)) → fold with_record d (flat_map (λ (rs : List Record). records_of (delta rs)) ls) ≡ fold with_record d (flat_map (λ (rs : List Record). rs) ls)
 deltas_from d [] = refl
 deltas_from d (rs ∷ ls) =
     fold-append with_record d (records_of (delta rs)) (flat_map (λ (x : List Record). records_of (delta x)) ls)

@@ -2,5 +2,10 @@ pub mod Layers
 pub mod Seen
 pub mod Fair
 pub mod Apart
-pub mod Keeping
 pub mod Sealing
+pub mod Keeping
+pub mod Plans
+pub mod Merges
+pub mod Joins
+pub mod Counts
+pub mod Prefixes

@@ -1,19 +1,30 @@
 -- What a job in memory and the files of a host stand for, and what is so of every job.
-use Rattle.std.specs.Prelude.{◌≡◌, ◌≤◌, ◌<◌, ◌+◌, ◌*◌, ℕ, IsFalse}
-use Rattle.std.specs.List.{AllByRecursion, AllZip}
+use Rattle.std.specs.Prelude.{◌≡◌, ◌≤◌, ◌<◌, ◌+◌, ◌*◌, ◌++◌, ℕ, List, [], length, map, slice_get, take, is_some, Option, Some, None, IsSomeAnd, IsFalse}
+use Rattle.std.specs.List.{AllByRecursion, AllZip, sum_by}
 use Rattle.dfs_host.specs.Host.{HostState, Told, bytes_of}
-use Rattle.dfs_record.specs.Delta.{Delta}
+use Rattle.dfs_record.specs.Delta.{Delta, delta}
+use Rattle.dfs_path.specs.declared.Scope.{Scope}
+use Rattle.dfs_path.specs.declared.Scope.TheVariants.{Own, All}
+use Rattle.dfs_table.specs.Counts.{count_of}
 use Rattle.dfs_table.specs.Stored.{IsStored}
+use Rattle.dfs_table.specs.Tables.{all_fences}
+use Rattle.dfs_table.specs.Writer.{AreIn}
+use Rattle.dfs_table.specs.declared.run.Run.{Run}
+use Rattle.dfs_plan.specs.Parts.{boundary}
+use Rattle.dfs_compact.specs.Compaction.{AreMerged, CompactionState}
+use Rattle.dfs_compact.specs.Parts.{merged_part, tables_of}
 use Rattle.dfs_change.specs.declared.change.Change.{Change}
 use Rattle.dfs_change.specs.Identities.{AreFit as AreOfJob, FitsJob}
 use Rattle.dfs_ops.specs.Op.{AreIds}
 use Rattle.dfs_ops.specs.Within.{IsWithin}
-use Rattle.dfs_view.specs.Layers.{AreFit, LiesIn, Stand, StandFor, own_runs, selected}
+use Rattle.dfs_view.specs.declared.layers.Layers.{Layers}
+use Rattle.dfs_view.specs.Layers.{AreFit, LiesIn, Stand, StandFor, own_runs, run_count, selected}
 use Rattle.dfs_view.specs.Lists.{joined}
-use Rattle.dfs_view.specs.View.{IsOwnRun, closed_count}
+use Rattle.dfs_view.specs.View.{IsOwnRun}
 use Rattle.dfs_job.specs.declared.settings.Settings.{Settings}
 use Rattle.dfs_job.specs.declared.job.Job.{Job as LiveJob}
-use Rattle.dfs_job.specs.Job.{Job, namespace_of}
+use Rattle.dfs_job.specs.declared.planning.UnderWay.{UnderWay}
+use Rattle.dfs_job.specs.Job.{Job, Plan, covered_changes, namespace_of}
 
 -- the settings that a job may have
 pub record AreSettings (settings : Settings) : Type 0 where
@@ -41,23 +52,123 @@ pub record IsSelectable (host : HostState) (c : Change) : Type 0 where
 abbrev pub IsStoredFor : HostState → Change → Delta → Type 0
 IsStoredFor host c d = IsStored (bytes_of host c.listed.job) c.run.value d
 
--- Its basis has identities of earlier jobs alone, its records none of a later job, and of its own those that it has made.
+-- Its basis has identities of earlier jobs alone, its records none of a later job, and of its own those that it has made. No more
+-- layers are there than records were made, but for one that a plan made of the basis.
 pub record IsFair (j : Job) : Type 0 where
   pub seen : IsWithin j.ids (namespace_of j)
   pub own : AllByRecursion (FitsJob j.ids.job) (joined j.layers)
+  pub basis : AllByRecursion (AreOfJob j.ids.job) j.basis
+  pub few : length j.layers.closed + length j.layers.open_ + length (take 1 j.basis) ≤ j.ids.made + 1
+
+-- ---- plans
+
+-- the runs of the basis that a plan covers
+abbrev pub basis_runs : Scope → List Change → List Run
+basis_runs Own cs = []
+basis_runs All cs = map (λ c. c.run.value) cs
+
+-- the selected change sets that it does not cover
+abbrev pub left_changes : Scope → List Change → List Change
+left_changes Own cs = cs
+left_changes All cs = []
+
+-- the runs that it merges, the oldest first
+abbrev pub sources_of : Scope → ℕ → Layers → List Run
+sources_of scope covered layers = basis_runs scope (selected layers) ++ take covered (own_runs layers)
+
+-- On every host: a plan under way merges what it covers, into the job's own file.
+pub record PlanIsFit (job : LiveJob) (u : UnderWay) : Type 0 where
+  pub live : IsFalse u.compaction.spent
+  pub sources : u.compaction.sources ≡ sources_of u.scope u.covered job.layers
+  pub inside : AreIn job.ids.job (tables_of u.compaction.merged)
+  pub covered : u.covered ≤ length (own_runs job.layers)
+  pub len : length u.compaction.merged ≡ u.compaction.parts
+  pub parts : u.compaction.parts ≤ 256
+
+abbrev pub PlansAreFit : LiveJob → Option UnderWay → Type 0
+PlansAreFit job None = Unit {0}
+PlansAreFit job (Some u) = PlanIsFit job u
+
+-- each part that was merged is stored for the merged list of its range of these change sets
+abbrev pub PartsAreStored : List ℕ → CompactionState → List Delta → Type 0
+PartsAreStored file c ds = (i : ℕ) (run : Run) → slice_get c.merged i ≡ Some (Some run) → IsStored file run (delta (merged_part (boundary c.keys c.parts i) (boundary c.keys c.parts (i + 1)) ds))
+
+-- It stands for the plan of the plain job: the parts that were merged are stored in the job's file for what the plan covers. (Its
+-- sources are stored there and in the logs of the selected change sets, as runs of the job.)
+pub record PlanStands (host : HostState) (file : ℕ) (j : Job) (u : UnderWay) (p : Plan) : Type 0 where
+  pub scope : p.scope ≡ u.scope
+  pub covered : p.covered ≡ u.covered
+  pub merged : p.merged ≡ map is_some u.compaction.merged
+  pub parts : PartsAreStored (bytes_of host file) u.compaction (covered_changes p j)
+
+abbrev pub PlansStand : HostState → ℕ → Job → Option UnderWay → Option Plan → Type 0
+PlansStand host file j None None = Unit {0}
+PlansStand host file j None (Some p) = ⊥
+PlansStand host file j (Some u) None = ⊥
+PlansStand host file j (Some u) (Some p) = PlanStands host file j u p
+
+-- ---- the account
+
+-- how many records the runs of the basis have
+abbrev pub basis_count : LiveJob → ℕ
+basis_count job = sum_by (λ c. run_count c.run.value) (selected job.layers)
+
+-- how many records the closed layers have
+abbrev pub own_count : LiveJob → ℕ
+own_count job = sum_by run_count (own_runs job.layers)
+
+-- how many records the merged parts of the plan under way have
+abbrev pub merged_count : Option UnderWay → ℕ
+merged_count None = 0
+merged_count (Some u) = count_of (all_fences (tables_of u.compaction.merged))
+
+-- how many tables they have
+abbrev pub plan_tables : Option UnderWay → ℕ
+plan_tables None = 0
+plan_tables (Some u) = length (tables_of u.compaction.merged)
+
+-- how many blocks the runs of the job may need, where each has one record alone and the tables of the merged parts are written
+abbrev pub most_blocks : LiveJob → ℕ
+most_blocks job = basis_count job + own_count job + job.layers.buffer.made + 4096 * plan_tables job.plan
+
+-- the 131,072 tables of a run may not have so many
+abbrev pub IsTooLong : LiveJob → Type 0
+IsTooLong job = 536870912 < most_blocks job
+
+-- all parts of the plan were merged
+abbrev pub IsWholePlan : Option UnderWay → Type 0
+IsWholePlan o = IsSomeAnd o (λ u. AreMerged u.compaction)
+
+-- how many plans are under way
+abbrev pub under_way : Option Plan → ℕ
+under_way None = 0
+under_way (Some p) = 1
+
+-- Its change sets and layers have no more records than it selected and made. Its log has a header and at most 1,100 bytes for each
+-- record that is not in the open layer, for all records once for each plan that is over, and for each record of the merged parts.
+pub record IsInAccount (job : LiveJob) (j : Job) : Type 0 where
+  pub few : basis_count job + own_count job + job.layers.buffer.made ≤ j.selected + j.ids.made
+  pub merged : merged_count job.plan ≤ (j.selected + j.ids.made) * under_way j.plan
+  pub over : ℕ
+  pub plans : over + under_way j.plan ≡ j.plans
+  pub log : job.layers.log.len + 1100 * job.layers.buffer.made ≤ 12 + 1100 * (j.ids.made + (j.selected + j.ids.made) * over + merged_count job.plan)
+
+-- ---- what a job stands for
 
 -- A job on a host that tells: its log stands there, each run is stored for its closed layer and the buffer stands for the open one,
--- and the changes of its basis are stored for those of the plain job.
+-- the changes of its basis are stored for those of the plain job, and so does its plan.
 pub record JobStands (host : HostState) (live : LiveJob) (j : Job) : Type 0 where
   pub ids : j.ids ≡ live.ids
   pub settings : j.settings ≡ live.settings
+  pub plans : j.plans ≡ live.plans
   pub stand : Stand host live.layers
   pub layers : StandFor host live.layers j.layers
   pub basis : AllZip (IsStoredFor host) (selected live.layers) j.basis
+  pub plan : PlansStand host live.layers.log.file j live.plan j.plan
   pub fair : IsFair j
+  pub account : IsInAccount live j
 
--- On every host: its log is its own file, its runs are its own, and no more records are in its layers than it made. The log has a
--- header and at most 1,100 bytes for each record that is not in the open layer.
+-- On every host: its log is its own file, its runs are its own, and its plan merges what it covers.
 pub record JobIsFit (job : LiveJob) : Type 0 where
   pub live : IsFalse job.spent
   pub ids : AreIds job.ids
@@ -68,8 +179,8 @@ pub record JobIsFit (job : LiveJob) : Type 0 where
   pub log_bytes : job.layers.log.limit ≡ job.settings.log_bytes
   pub own : AllByRecursion (IsOwnRun job.ids.job) (own_runs job.layers)
   pub basis : AllByRecursion (IsEarlier job.ids.job) (selected job.layers)
-  pub few : closed_count job.layers + job.layers.buffer.made ≤ job.ids.made
-  pub account : job.layers.log.len + 1100 * job.layers.buffer.made ≤ 12 + 1100 * job.ids.made
+  pub plans : job.plans ≤ 65535
+  pub plan : PlansAreFit job job.plan
 
 -- the plain job that it stands for
 pub record StandsForOne (host : HostState) (job : LiveJob) : Type 0 where

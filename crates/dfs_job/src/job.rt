@@ -1,7 +1,8 @@
 //! Jobs.
 
-use crate::Settings;
 use crate::applying::apply_to;
+use crate::planning::UnderWay;
+use crate::Settings;
 use crate::publishing::run_at;
 use dfs_buffer::Buffer;
 use dfs_change::Change;
@@ -13,12 +14,15 @@ use dfs_view::{Layers, flush};
 use std::alloc::Global;
 use std::rc::Rc;
 
-/// A live job: its numbers, its layers with their log, and the settings that it was begun with.
+/// A live job: its numbers, its layers with their log, the settings that it was begun with, how many plans it made, and the one that
+/// is under way.
 #[derive(Drop)]
 pub struct Job {
     pub ids: Ids,
     pub layers: Layers,
     pub settings: Settings,
+    pub plans: u16,
+    pub plan: Option<UnderWay>,
     pub spent: bool,
 }
 
@@ -79,6 +83,8 @@ impl Job {
                 basis,
             },
             settings,
+            plans: 0,
+            plan: None,
             spent: false,
         })
     }
@@ -120,6 +126,7 @@ impl Job {
         ensures number { self.new.ids ≡ self.old.ids }
         ensures settings { self.new.settings ≡ self.old.settings }
         ensures basis { self.new.layers.basis.items ≡ self.old.layers.basis.items }
+        ensures plan { (self.new.plan ≡ self.old.plan) × (self.new.plans ≡ self.old.plans) }
         ensures full { IsErrOf result Fault.LogFull ↔ (0 < self.new.layers.log.refused) }
         ensures short { (j : PlainJob) → Told (H.state host.old) (JobStands (H.state host.old) self.old j → IsErrOf result Fault.LogFull → j.settings.log_bytes < need j) }
         ensures only { Only self.old.ids.job (H.state host.old) (H.state host.new) }
@@ -139,9 +146,9 @@ impl Job {
         ensures runs { (host : HostState) (j : PlainJob) → JobStands host self.now j → result.runs ≡ run_count j }
         ensures records { (host : HostState) (j : PlainJob) → JobStands host self.now j → result.records ≡ key_count j }
     {
-        let mut records = 0;
+        let mut records: u64 = 0;
         for index in 0..self.layers.runs.len() {
-            records += run_at(&self.layers.runs, index).count();
+            records = records.saturating_add(run_at(&self.layers.runs, index).count());
         }
         Stats {
             runs: self.layers.runs.len() as u64,

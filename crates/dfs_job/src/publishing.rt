@@ -1,6 +1,6 @@
 //! What a job publishes.
 
-ghost use Rattle.std.specs.Prelude.{◌≡◌, ◌≤◌, ◌<◌, ◌+◌, ◌*◌, ◌↔◌, ℕ, List, IsFalse, IfOk, OnOk, IsErrOf, IsSomeAnd, Some, flat_map, map, slice_get, length};
+ghost use Rattle.std.specs.Prelude.{◌≡◌, ◌≤◌, ◌<◌, ◌+◌, ◌*◌, ◌⊎◌, ◌↔◌, ℕ, List, IsFalse, IfOk, OnOk, IsErrOf, IsSomeAnd, Some, flat_map, map, slice_get, length};
 ghost use Rattle.std.specs.List.{AllByRecursion, sum_by};
 ghost use Rattle.dfs_host.specs.Disk.{IsSettled};
 ghost use Rattle.dfs_host.specs.Fault.{HasFaultCause};
@@ -22,13 +22,16 @@ use dfs_host::{Fault, Host};
 use dfs_log::LogWriter;
 use dfs_merge::Merge;
 use dfs_record::{NoMemory, Records};
-use dfs_table::{Run, RunRecords, write_run};
+use dfs_table::{Run, RunRecords, write_tables};
 use dfs_view::{Layers, flush};
 use std::alloc::Global;
 use std::rc::Rc;
 
+/// The most tables of a run.
+const MOST_TABLES: u32 = 131_072;
+
 impl Job {
-    ghost use Rattle.std.specs.Prelude.{◌≡◌, ◌<◌, ◌↔◌, ℕ, List, IsTrue, IfOk, OnOk, IsErrOf, Some};
+    ghost use Rattle.std.specs.Prelude.{◌≡◌, ◌<◌, ◌⊎◌, ℕ, List, IsTrue, IfOk, OnOk, IsErrOf, Some};
     ghost use Rattle.dfs_host.specs.Disk.{IsSettled};
     ghost use Rattle.dfs_host.specs.Fault.{HasFaultCause};
     ghost use Rattle.dfs_host.specs.Host.{Told, Only, bytes_of};
@@ -36,7 +39,7 @@ impl Job {
     ghost use Rattle.dfs_change.specs.Meant.{log_meaning};
     ghost use Rattle.dfs_change.specs.Sealing.{entry_of};
     ghost use Rattle.dfs_job.specs.Job.{Job as PlainJob, need, own_changes};
-    ghost use Rattle.dfs_job.specs.Stands.{JobIsSound, JobStands};
+    ghost use Rattle.dfs_job.specs.Stands.{IsTooLong, JobIsSound, JobStands};
 
     /// Seals all layers of the job as one run in its log: the only one as it stands, several ones merged, none as a run without a
     /// table. What it selected is no part of that. The job is over then, so that it is spent whatever the answer.
@@ -51,7 +54,9 @@ impl Job {
         ensures number { self.new.ids ≡ self.old.ids }
         ensures settings { self.new.settings ≡ self.old.settings }
         ensures basis { self.new.layers.basis.items ≡ self.old.layers.basis.items }
-        ensures full { IsErrOf result Fault.LogFull ↔ (0 < self.new.layers.log.refused) }
+        // `LogFull` exactly where the log refused a piece or one table too many would be begun.
+        ensures full { IsErrOf result Fault.LogFull → (0 < self.new.layers.log.refused) ⊎ IsTooLong self.old }
+        ensures refuses { 0 < self.new.layers.log.refused → IsErrOf result Fault.LogFull }
         ensures short { (j : PlainJob) → Told (H.state host.old) (JobStands (H.state host.old) self.old j → IsErrOf result Fault.LogFull → j.settings.log_bytes < need j) }
         ensures only { Only self.old.ids.job (H.state host.old) (H.state host.new) }
         ensures cause { HasFaultCause (H.state host.old) (H.state host.new) result }
@@ -69,7 +74,6 @@ fn seal<H: Host>(alloc: Global, host: &mut H, layers: &mut Layers) -> Result<Sea
     requires live { IsFalse layers.old.log.spent }
     requires stands { Told (H.state host.old) (LogStands (H.state host.old) layers.old.log) }
     requires own { AllByRecursion (IsOwnRun layers.old.log.file) (own_runs layers.old) }
-    requires few { closed_count layers.old ≤ 1048576 }
     requires sealable { Told (H.state host.old) (AreSealable (H.state host.old) layers.old.log.file (own_runs layers.old)) }
 
     ensures changes { (ls : List (List AnyRecord)) → Told (H.state host.old) (IsSealable (H.state host.old) layers.old.log.file (own_runs layers.old) ls
@@ -77,7 +81,8 @@ fn seal<H: Host>(alloc: Global, host: &mut H, layers: &mut Layers) -> Result<Sea
     ensures count { (ls : List (List AnyRecord)) → Told (H.state host.old) (IsSealable (H.state host.old) layers.old.log.file (own_runs layers.old) ls → IfOk result (λ sealed. sealed.count ≡ len (delta (flat_map (λ rs. rs) ls)))) }
     ensures settled { Told (H.state host.old) (OnOk result (IsSettled ((H.state host.new).disk.files layers.old.log.file))) }
     ensures same { layers.new.basis.items ≡ layers.old.basis.items }
-    ensures full { IsErrOf result Fault.LogFull ↔ (0 < layers.new.log.refused) }
+    ensures full { IsErrOf result Fault.LogFull → (0 < layers.new.log.refused) ⊎ (536870912 < closed_count layers.old) }
+    ensures refuses { 0 < layers.new.log.refused → IsErrOf result Fault.LogFull }
     ensures past { 0 < layers.new.log.refused → layers.old.log.limit < layers.new.log.len + layers.new.log.refused }
     // A merged record costs at most 1,100 bytes, a table 16 in the manifest.
     ensures growth { Told (H.state host.old) (layers.new.log.len + layers.new.log.refused ≤ layers.old.log.len + (1116 * closed_count layers.old + 4)) }
@@ -127,7 +132,6 @@ fn merge_runs<H: Host>(
 ) -> Result<Run, Fault>
     requires live { IsFalse log.old.spent }
     requires stands { Told (H.state host.old) (LogStands (H.state host.old) log.old) }
-    requires few { sum_by run_count (map (λ r. r.value) runs.now) ≤ 1048576 }
 
     ensures stored { (ls : List (List AnyRecord)) → Told (H.state host.old) (AreStored (bytes_of (H.state host.old) log.old.file) (map (λ r. r.value) runs.now) ls
         → IfOk result (λ run. IsStored (bytes_of (H.state host.new) log.old.file) run (delta (flat_map (λ rs. rs) ls)))) }
@@ -135,7 +139,8 @@ fn merge_runs<H: Host>(
     ensures count { IfOk result (λ run. run_count run ≤ sum_by run_count (map (λ r. r.value) runs.now)) }
     ensures log { Told (H.state host.old) (OnOk result (LogStands (H.state host.new) log.new)) }
     ensures live { OnOk result (IsFalse log.new.spent) }
-    ensures full { IsErrOf result Fault.LogFull ↔ (0 < log.new.refused) }
+    ensures full { IsErrOf result Fault.LogFull → (0 < log.new.refused) ⊎ (536870912 < sum_by run_count (map (λ r. r.value) runs.now)) }
+    ensures refuses { 0 < log.new.refused → IsErrOf result Fault.LogFull }
     ensures over { 0 < log.new.refused → log.new.limit < log.new.len + log.new.refused }
     ensures growth { log.new.len + log.new.refused ≤ log.old.len + 1100 * sum_by run_count (map (λ r. r.value) runs.now) }
     ensures same { (log.new.file ≡ log.old.file) × (log.new.limit ≡ log.old.limit) }
@@ -149,7 +154,7 @@ fn merge_runs<H: Host>(
     let Ok(merge) = merged(alloc, runs) else {
         return Err(Fault::NoMemory);
     };
-    write_run(alloc, host, log, merge)
+    write_tables(alloc, host, log, merge, MOST_TABLES)
 }
 
 // The records of all runs, each key once with its last value.

@@ -1,7 +1,7 @@
 -- Lines of a live job: an operation, a flush, and its end.
-use Rattle.std.proofs.Common.{◌≡◌, ◌≢◌, ◌∙◌, ◌≤◌, ◌<◌, ℕ, zero, suc, Bool, true, false, Option, Some, None, Result, Err, refl, sym, ap, subst, arith}
+use Rattle.std.proofs.Common.{inl, inr, ◌≡◌, ◌≢◌, ◌∙◌, ◌≤◌, ◌<◌, ◌⊎◌, ℕ, zero, suc, Bool, true, false, Option, Some, None, Result, Err, refl, sym, ap, subst, arith}
 use Rattle.std.proofs.lemmas.Bool.{lt-ltb}
-use Rattle.std.specs.Prelude.{◌↔◌, IfOk, IfNone, OnOk, IsErrOf, IsTrue, is_some, nat_lt}
+use Rattle.std.specs.Prelude.{IfOk, IfNone, OnOk, IsErrOf, IsTrue, is_some, nat_lt}
 use Rattle.std.specs.BTreeMap.{BTreeMap, is_at}
 use Rattle.std.specs.Global.{Vec}
 use Rattle.std.specs.List.{AllByRecursion, AllZip, list_any}
@@ -20,7 +20,7 @@ use Rattle.dfs_script.specs.declared.JobWord.{JobWord}
 use Rattle.dfs_view.specs.Layers.{selected}
 use Rattle.dfs_job.specs.declared.job.Job.{Job as LiveJob}
 use Rattle.dfs_job.specs.Job.{Job}
-use Rattle.dfs_job.specs.Stands.{JobIsSound, JobStands, StandsForOne}
+use Rattle.dfs_job.specs.Stands.{IsTooLong, JobIsSound, JobStands, StandsForOne, most_blocks}
 use Rattle.dfs_session.specs.declared.keeping.Kept.{Kept}
 use Rattle.dfs_session.specs.declared.session.Session.{Session as LiveSession}
 use Rattle.dfs_session.specs.Files.{value_on}
@@ -29,12 +29,12 @@ use Rattle.dfs_session.specs.Kept.{IsOwn}
 use Rattle.dfs_session.specs.Session.{Registry, Session, Step, live_job, of_live, ends, word_cmp}
 use Rattle.dfs_session.specs.Sound.{AreApart, IsEntry, IsListed, IsLive, IsSound, NoneHas, PlainOf, jobs_of, listed_in, live_in, number_of}
 use Rattle.dfs_session.specs.Stands.{EntryStands, LeavesValue, Stands}
-use Rattle.dfs_session.specs.Worked.{AreNamed, IsShort, IsWorked, Work, has_refused, plain}
+use Rattle.dfs_session.specs.Worked.{AreNamed, IsFullWhere, IsShort, IsWorked, Work, has_refused, has_too_long, plain}
 use Rattle.dfs_session.proofs.Begun.{HasEnded, each_ended, kept_still, still_none}
 use Rattle.dfs_session.proofs.Faults.{unrefused, each_unrefused, sound_refused, not_true}
 use Rattle.dfs_session.proofs.Handed.{fault_or, handed_cause}
 use Rattle.dfs_session.proofs.Images.{own_images, read_images}
-use Rattle.dfs_session.proofs.Jobs.{Live, FoundBoth, all_set, all_found, all_remove, any_set, apart_set, apart_remove, both_found, none_unremoved, none_unset, removed_apart, zip_remove}
+use Rattle.dfs_session.proofs.Jobs.{Live, FoundBoth, all_set, all_found, all_remove, any_set, any_there, apart_set, apart_remove, both_found, none_unremoved, none_unset, removed_apart, zip_remove}
 use Rattle.dfs_session.proofs.Kept.{Keeps, bytes_stay, keep_listed, only_keeps, plains_changed, registry_kept, registry_value, settled_stay, unlisted_apart, zip_changed}
 use Rattle.dfs_session.proofs.Values.{same_publications, stands_value}
 use Rattle.dfs_session.proofs.Working.{OnlyMemory, ended_names, on_ok, same_names, worked_by_memory}
@@ -123,9 +123,12 @@ module _ (before after : HostState) (session : LiveSession) (word : JobWord) (li
       now_refused : 0 < new.layers.log.refused → has_refused changed ≡ true
       now_refused some = ap (λ (es : Live). list_any (λ e. nat_lt 0 e.1.layers.log.refused) es) set ∙ any_set test (jobs_of session) live new found (lt-ltb 0 new.layers.log.refused some)
 
-      -- `LogFull` exactly where the job's log refused a piece
-      pub full_with : {T : Type 0} (result : Result T Fault) → (IsErrOf result LogFull ↔ (0 < new.layers.log.refused)) → IsErrOf result LogFull ↔ IsTrue (has_refused changed)
-      full_with result full = (λ is. now_refused (full.0 is), λ holds. full.1 (some holds))
+      too_long : IsTooLong live → has_too_long session ≡ true
+      too_long many = any_there (λ x. nat_lt 536870912 (most_blocks x)) test (jobs_of session) live found (lt-ltb 536870912 (most_blocks live) many)
+
+      -- `LogFull` exactly where the job's log refused a piece or a run of it would have a table too many
+      pub full_with : {T : Type 0} (result : Result T Fault) → (IsErrOf result LogFull → (0 < new.layers.log.refused) ⊎ IsTooLong live) → (0 < new.layers.log.refused → IsErrOf result LogFull) → IsFullWhere result session changed
+      full_with result only refused = record { only = λ is. elim (only is) [ | inl holds ↦ inl (now_refused holds) | inr many ↦ inr (too_long many) ]; refused = λ holds. refused (some holds) }
         where
           some : IsTrue (has_refused changed) → 0 < new.layers.log.refused
           some holds = by new.layers.log.refused refl
@@ -174,9 +177,9 @@ module _ (before after : HostState) (session : LiveSession) (word : JobWord) (li
       }
 
       -- a call on the job that met a fault
-      pub fault_worked : {T : Type 0} (work : Work) (fault : Fault) → HasFaultCause {T = T} before after (Err fault) → (IsErrOf {T = T} (Err fault) LogFull ↔ (0 < new.layers.log.refused))
+      pub fault_worked : {T : Type 0} (work : Work) (fault : Fault) → HasFaultCause {T = T} before after (Err fault) → (IsErrOf {T = T} (Err fault) LogFull → (0 < new.layers.log.refused) ⊎ IsTooLong live) → (0 < new.layers.log.refused → IsErrOf {T = T} (Err fault) LogFull)
           → ((s : Session) → IsTrue before.tells → Stands before session s → fault ≡ LogFull → IsShort (work.job s)) → IsWorked work before after session changed (Err fault)
-      fault_worked {T} work fault cause full short = record {
+      fault_worked {T} work fault cause full refused short = record {
         sound = tt;
         settings = tt;
         reply = λ s tells stands. tt;
@@ -185,7 +188,7 @@ module _ (before after : HostState) (session : LiveSession) (word : JobWord) (li
         images = λ s tells stands. own_job_images s (work.step s).session.registry tells stands;
         silent = silent_only only;
         cause = handed_cause fault (none_yet before) cause;
-        full = full_with (Err fault) (λ is. full.0 (ap Err (ap fault_or is)), λ some. ap Err (ap (fault_or {T = T}) (full.1 some)));
+        full = full_with (Err fault) (λ is. full (ap Err (ap fault_or is))) (λ some. ap Err (ap (fault_or {T = T}) (refused some)));
         short = λ s tells stands is. short s tells stands (ap fault_or is);
         reads = λ quiet. tt;
         names = tt;

@@ -1,6 +1,6 @@
 -- Which logs have refused a piece.
 use Rattle.std.proofs.Common.{◌≡◌, ◌∙◌, ℕ, Bool, true, false, List, [], ◌∷◌, refl, sym, ap, subst}
-use Rattle.std.specs.Prelude.{◌↔◌, nat_lt, IsTrue, Result, Ok, Err, IsErrOf, IfErr}
+use Rattle.std.specs.Prelude.{nat_lt, IsTrue, Result, Ok, Err, IsErrOf, IfErr}
 use Rattle.dfs_host.specs.declared.fault.Fault.{Fault}
 use Rattle.dfs_host.specs.declared.fault.Fault.TheVariants.{NoMemory, LogFull}
 use Rattle.std.specs.List.{AllByRecursion, list_any}
@@ -10,7 +10,7 @@ use Rattle.dfs_script.specs.declared.JobWord.{JobWord}
 use Rattle.dfs_job.specs.declared.job.Job.{Job as LiveJob}
 use Rattle.dfs_session.specs.declared.session.Session.{Session as LiveSession}
 use Rattle.dfs_session.specs.Sound.{IsLive, IsSoundInMemory, jobs_of, listed_in}
-use Rattle.dfs_session.specs.Worked.{has_refused}
+use Rattle.dfs_session.specs.Worked.{IsFullWhere, has_refused}
 
 pub unrefused : (es : List (JobWord × LiveJob)) → AllByRecursion (λ e. e.1.layers.log.refused ≡ 0) es → list_any (λ e. nat_lt 0 e.1.layers.log.refused) es ≡ false
 unrefused [] all = refl
@@ -41,5 +41,5 @@ memory_no_log_full (Ok x) memory is = subst IsNoLogFull is tt
 memory_no_log_full (Err fault) memory is = subst IsNoLogFull (ap (λ (f : Fault). Err f) (sym memory) ∙ is) tt
 
 -- where no log refused a piece, no answer is that a log is full
-pub full_by : {T : Type 0} (result : Result T Fault) (session : LiveSession) → (IsErrOf result LogFull → ⊥) → has_refused session ≡ false → IsErrOf result LogFull ↔ IsTrue (has_refused session)
-full_by result session never none = (λ is. absurd (never is), λ holds. absurd (not_true (has_refused session) none holds))
+pub full_by : {T : Type 0} (result : Result T Fault) (old session : LiveSession) → (IsErrOf result LogFull → ⊥) → has_refused session ≡ false → IsFullWhere result old session
+full_by result old session never none = record { only = λ is. absurd (never is); refused = λ holds. absurd (not_true (has_refused session) none holds) }

@@ -145,7 +145,7 @@ module _ (before mid after : HostState) (session : LiveSession) (word : JobWord)
     images = publishing_images;
     silent = silent_on (silent_only sealing) (silent_only listing);
     cause = handed_cause fault none cause;
-    full = full_by (Err fault) new (λ is. full (ap fault_or is)) refused;
+    full = full_by (Err fault) session new (λ is. full (ap fault_or is)) refused;
     short = λ s tells stands is. absurd (full (ap fault_or is));
     reads = λ quiet. tt;
     names = tt;
@@ -295,7 +295,7 @@ module _ (before mid after : HostState) (session : LiveSession) (word : JobWord)
         images = publishing_images before mid after session word live sound found sealing listing listed same_job writing changes settled;
         silent = silent_on (silent_only sealing) (silent_only listing);
         cause = memory_cause (Ok bytes) none tt;
-        full = full_by (Ok bytes) published_session (ok_never LogFull) (sound_refused published_session published_sound.memory);
+        full = full_by (Ok bytes) session published_session (ok_never LogFull) (sound_refused published_session published_sound.memory);
         short = λ s tells stands is. absurd (ok_never LogFull is);
         reads = λ quiet. absurd quiet;
         names = ended_names session published_session None live.ids.job refl ended (subst (AllByRecursion (λ e. number_of live ≢ number_of e.1)) (sym gone) apart) published_sound.memory;

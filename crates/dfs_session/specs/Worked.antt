@@ -1,5 +1,5 @@
 -- What the working of a line does.
-use Rattle.std.specs.Prelude.{◌≡◌, ◌↔◌, ◌≤◌, ◌<◌, ℕ, Bool, nat_lt, IsTrue, List, map, Option, Some, None, Result, Ok, Err, OnOk, IfOk, IsErrOf}
+use Rattle.std.specs.Prelude.{◌≡◌, ◌≤◌, ◌<◌, ◌⊎◌, ℕ, Bool, nat_lt, IsTrue, List, map, Option, Some, None, Result, Ok, Err, OnOk, IfOk, IsErrOf}
 use Rattle.std.specs.List.{AllByRecursion, list_all, list_any}
 use Rattle.std.specs.Global.{Vec}
 use Rattle.dfs_host.specs.Fault.{HasFaultCause}
@@ -26,6 +26,7 @@ use Rattle.dfs_script.specs.Line.{meaning}
 use Rattle.dfs_job.specs.declared.settings.Settings.{Settings}
 use Rattle.dfs_job.specs.declared.job.Job.{Job as LiveJob}
 use Rattle.dfs_job.specs.Job.{Job, after, does, need}
+use Rattle.dfs_job.specs.Stands.{most_blocks}
 use Rattle.dfs_session.specs.Selected.{is_selected}
 use Rattle.dfs_session.specs.Session.{Session, Step, after_command, after_meaning, begins, begins_over, flushes, live_job, of_job, operates_for, publishes_anew, publishes_for, sets, with_setting}
 use Rattle.dfs_session.specs.Kept.{begin_in}
@@ -43,6 +44,15 @@ OpensAs reading (Err reg.Disk) = Unit {0}
 -- whether the log of a live job has refused a piece
 abbrev pub has_refused : LiveSession → Bool
 has_refused session = list_any (λ e. nat_lt 0 e.1.layers.log.refused) (jobs_of session)
+
+-- whether a live job may need more blocks than the 131,072 tables of a run have
+abbrev pub has_too_long : LiveSession → Bool
+has_too_long session = list_any (λ e. nat_lt 536870912 (most_blocks e.1)) (jobs_of session)
+
+-- `LogFull` exactly where a log refused a piece or a run would have one table too many.
+pub record IsFullWhere {T : Type 0} (result : Result T Fault) (old new : LiveSession) : Type 0 where
+  pub only : IsErrOf result LogFull → IsTrue (has_refused new) ⊎ IsTrue (has_too_long old)
+  pub refused : IsTrue (has_refused new) → IsErrOf result LogFull
 
 -- ---- what a line works
 
@@ -194,7 +204,7 @@ pub record IsWorked (work : Work) (before now : HostState) (old new : LiveSessio
   pub images : (s : Session) → Told before (Stands before old s → LeavesOnly (HoldsEither s.registry (work.step s).session.registry) before now)
   pub silent : SaysNothing before now
   pub cause : HasFaultCause before now result
-  pub full : IsErrOf result LogFull ↔ IsTrue (has_refused new)
+  pub full : IsFullWhere result old new
   pub short : (s : Session) → Told before (Stands before old s → IsErrOf result LogFull → IsShort (work.job s))
   pub reads : work.quiet old → OnOk result (now.reads ≡ before.reads)
   pub names : OnOk result (AreNamed work.names old new)

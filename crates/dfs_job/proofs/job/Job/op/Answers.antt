@@ -1,9 +1,13 @@
-use Rattle.std.proofs.Common.{◌∙◌, ap, false, length, refl, sym, subst}
-use Rattle.dfs_ops.specs.Op.{AreIds, Outcome}
+use Rattle.std.proofs.Common.{◌∙◌, ◌≤◌, ◌+◌, ap, arith, false, length, refl, sym, subst}
+use Rattle.std.proofs.lemmas.Result.{err_from_is_err_and}
+use Rattle.dfs_ops.specs.Op.{AreIds, Outcome, outcome}
+use Rattle.dfs_view.specs.Layers.{layers_map}
 use Rattle.dfs_view.specs.Lists.{add_all}
 use Rattle.dfs_job.specs.Job.{after, does}
 use Rattle.dfs_job.proofs.Fair.{fresh_after}
-use Rattle.dfs_job.proofs.Keeping.{fit_after, op_stands, same_outcome}
+use Rattle.dfs_job.proofs.Prefixes.{prefix_few}
+use Rattle.dfs_job.specs.declared.settings.Settings.{Settings}
+use Rattle.dfs_job.proofs.Keeping.{account_short, fit_after, op_stands, same_outcome}
 use Rattle.dfs_job.proofs.job.Job.op.Goals as goal
 
 pub returns-clause-answer : goal.returns-clause-answer
@@ -12,8 +16,8 @@ returns-clause-answer g c = λ j tells stands. c.in_ok-answer.ensures.answer tel
 pub returns-clause-stands : goal.returns-clause-stands
 returns-clause-stands g c = λ j tells stands.
     let of = c.in_ok-answer.ensures in
-    op_stands (g.H.Host.state c.args.host.now) (g.H.Host.state c.apply_to.new.host) c.args.self.now (record { ids = c.apply_to.new.ids; layers = c.apply_to.new.layers; settings = c.args.self.now.settings; spent = false }) c.args.op.now of.applied.records tells
-    c.requires.sound.fit c.requires.op of.applied.went_on (of.applied.whole tells) (of.ids tells) (of.stand tells) refl j stands
+    op_stands (g.H.Host.state c.args.host.now) (g.H.Host.state c.apply_to.new.host) c.args.self.now (record { ids = c.apply_to.new.ids; layers = c.apply_to.new.layers; settings = c.args.self.now.settings; plans = c.args.self.now.plans; plan = c.args.self.now.plan; spent = false }) c.args.op.now of.applied.records tells
+    c.requires.sound.fit c.requires.op of.applied.went_on (of.applied.whole tells) (of.ids tells) (of.stand tells) refl refl refl j stands
 
 pub returns-clause-fresh : goal.returns-clause-fresh
 returns-clause-fresh g c = λ j tells stands. fresh_after j c.args.op.now (subst AreIds (sym stands.ids) c.requires.sound.fit.ids) c.requires.op stands.fair
@@ -23,10 +27,25 @@ returns-clause-sound g c =
     let of = c.in_ok-answer.ensures in
     let old = c.args.self.now in
     record {
-      fit = fit_after (g.H.Host.state c.args.host.now) (g.H.Host.state c.apply_to.new.host) old (record { ids = c.apply_to.new.ids; layers = c.apply_to.new.layers; settings = old.settings; spent = false }) (length of.applied.records)
-          (λ l. add_all old.layers.limit l of.applied.records) c.requires.sound.fit of.applied.went_on refl of.again of.applied.job of.applied.made refl of.fit;
+      fit = fit_after (g.H.Host.state c.args.host.now) (g.H.Host.state c.apply_to.new.host) old (record { ids = c.apply_to.new.ids; layers = c.apply_to.new.layers; settings = old.settings; plans = old.plans; plan = old.plan; spent = false }) (length of.applied.records)
+          (λ l. add_all old.layers.limit l of.applied.records) c.requires.sound.fit of.applied.went_on refl of.again of.applied.job refl of.fit refl refl;
       stands = λ tells.
           let told = sym of.cause.tells ∙ tells in
           let one = c.requires.sound.stands told in
           record { plain = after one.plain (does one.plain c.args.op.now); stands = returns-clause-stands g c one.plain told one.stands };
     }
+
+pub returns-in_err-answer-clause-short : goal.returns-in_err-answer-clause-short
+returns-in_err-answer-clause-short g c = λ j tells stands is.
+    let of = c.in_err-answer.ensures in
+    let p = err_from_is_err_and c.from_residual.result c.from_residual.ensures.1 in
+    let past = of.applied.went_on.past (c.apply_to.ensures.full.0 (cc (is, c.in_err-answer.was, p.1, p.2))) in
+    let first = of.applied.first tells in
+    let few : length of.applied.records ≤ length (does j c.args.op.now).records = omega (arith, prefix_few of.applied.records (outcome (layers_map (g.H.Host.state c.args.host.now) c.args.self.now.layers) c.args.self.now.ids c.args.op.now).records first, ap (λ (o : Outcome). length o.records) (same_outcome (g.H.Host.state c.args.host.now) c.args.self.now j c.args.op.now stands)) in
+    omega (
+      arith,
+      account_short c.args.self.now j (after j (does j c.args.op.now)) (length of.applied.records) 0 c.args.self.now.layers.log.limit (c.apply_to.new.layers.log.len + c.apply_to.new.layers.log.refused) stands.account
+          (omega (arith, of.applied.went_on.growth)) (omega arith) past refl (omega (arith, few)) (omega arith),
+      c.requires.sound.fit.log_bytes,
+      ap (λ (s : Settings). s.log_bytes) stands.settings,
+    )

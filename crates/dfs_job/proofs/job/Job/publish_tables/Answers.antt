@@ -1,9 +1,13 @@
-use Rattle.std.proofs.Common.{◌∙◌, ◌≡◌, ap, sym, subst, refl, flat_map, List}
+use Rattle.std.proofs.Common.{inl, inr, ◌∙◌, ◌≡◌, ◌+◌, ◌*◌, ap, arith, sym, subst, refl, flat_map, List}
+use Rattle.std.proofs.lemmas.Result.{err_from_is_err_and}
 use Rattle.std.specs.List.{AllByRecursion}
 use Rattle.dfs_host.specs.Host.{Only}
 use Rattle.dfs_host.proofs.Moments.{only_goes_on}
 use Rattle.dfs_change.specs.Identities.{FitsJob}
 use Rattle.dfs_view.specs.Lists.{flushed}
+use Rattle.dfs_view.specs.View.{closed_count}
+use Rattle.dfs_job.specs.declared.settings.Settings.{Settings}
+use Rattle.dfs_job.proofs.Keeping.{account_short, too_many_short}
 use Rattle.dfs_job.proofs.Layers.{flushed_closed}
 use Rattle.dfs_job.proofs.job.Job.publish_tables.Goals as goal
 
@@ -28,3 +32,32 @@ returns-clause-only g c =
     let file = c.requires.sound.fit.file in
     only_goes_on (subst (λ n. Only n (g.H.Host.state c.args.host.now) (g.H.Host.state c.flush.new.host)) file of.works.only)
     (subst (λ n. Only n (g.H.Host.state c.flush.new.host) (g.H.Host.state c.seal.new.host)) (of.works.file ∙ file) c.seal.ensures.only)
+
+pub returns-in_err-flush-clause-short : goal.returns-in_err-flush-clause-short
+returns-in_err-flush-clause-short g c = λ j tells stands is.
+    let of = c.flush.ensures in
+    let p = err_from_is_err_and c.from_residual.result c.from_residual.ensures.1 in
+    let past = of.works.past (of.full.0 (cc (is, c.in_err-flush.was, p.1, p.2))) in
+    omega (
+      arith,
+      account_short c.args.self.now j j 0 0 c.args.self.now.layers.log.limit (c.flush.new.layers.log.len + c.flush.new.layers.log.refused) stands.account (omega (arith, of.works.growth)) (omega arith) past refl (omega arith) (omega arith),
+      c.requires.sound.fit.log_bytes,
+      ap (λ (s : Settings). s.log_bytes) stands.settings,
+    )
+
+pub returns-clause-short : goal.returns-clause-short
+returns-clause-short g c = λ j tells stands is.
+    let of = c.in_ok-flush.ensures in
+    let old = c.args.self.now in
+    let few = stands.account.few in
+    elim (c.seal.ensures.full is) [
+      | inl some ↦
+          omega (
+            arith,
+            account_short old j j 0 (1116 * closed_count c.flush.new.layers + 4) old.layers.log.limit (c.seal.new.layers.log.len + c.seal.new.layers.log.refused) stands.account
+                (omega (arith, of.works.growth, c.seal.ensures.growth (of.cause.tells ∙ tells), of.emptied)) (omega (arith, of.works.counted, few)) (omega (arith, c.seal.ensures.past some, of.works.log_limit)) refl (omega arith) (omega arith),
+            c.requires.sound.fit.log_bytes,
+            ap (λ (s : Settings). s.log_bytes) stands.settings,
+          )
+      | inr many ↦ too_many_short old j c.requires.sound.fit stands.settings (omega (arith, many, of.works.counted, few))
+    ]

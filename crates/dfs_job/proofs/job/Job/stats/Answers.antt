@@ -1,36 +1,30 @@
-use Rattle.std.proofs.Common.{◌∙◌, ◌+◌, ap, arith, map}
+use Rattle.std.proofs.Common.{◌≡◌, ◌∙◌, ◌+◌, ◌≤◌, ap, arith, map}
+use Rattle.std.specs.Prelude.{min}
 use Rattle.std.specs.List.{sum_by}
 use Rattle.std.proofs.lemmas.List.{take_all, length-map}
 use Rattle.dfs_host.specs.Host.{bytes_of}
 use Rattle.dfs_view.specs.Layers.{own_runs, run_count}
 use Rattle.dfs_view.specs.View.{IsOwnRun}
-use Rattle.dfs_job.proofs.Sealing.{all_at, all_counted, count_most, count_next, run_in, stored_lengths}
+use Rattle.dfs_job.proofs.Counts.{counts_fit}
+use Rattle.dfs_job.proofs.Sealing.{all_at, all_counted, count_next, run_in, stored_lengths}
 use Rattle.dfs_job.proofs.job.Job.stats.Goals as goal
 
-pub count-records-requires : goal.count-records-requires
-count-records-requires c =
+pub count-requires : goal.count-requires
+count-requires c =
     let rs = own_runs c.args.self.now.layers in
     (all_at (IsOwnRun c.args.self.now.ids.job) rs c.loop-index.index c.run_at.result.now c.requires.fit.own (run_in rs c.loop-index.index c.run_at.result.now (ap (map (λ r. r.value)) c.deref.ensures.value) c.run_at.ensures)).few
-
-pub overflow_add-records : goal.overflow_add-records
-overflow_add-records c =
-    let rs = own_runs c.args.self.now.layers in
-    let run = c.run_at.result.now in
-    omega (
-      arith,
-      c.loop-index.invariant,
-      c.count-records.ensures.count,
-      count_next rs c.loop-index.index run (run_in rs c.loop-index.index run (ap (map (λ r. r.value)) c.deref.ensures.value) c.run_at.ensures),
-      count_most rs (c.loop-index.index + 1),
-      c.requires.fit.few,
-      c.requires.fit.ids.made,
-    )
 
 pub loop-index-preserved : goal.loop-index-preserved
 loop-index-preserved c =
     let rs = own_runs c.args.self.now.layers in
     let run = c.run_at.result.now in
-    omega (arith, c.loop-index.invariant, c.count-records.ensures.count, count_next rs c.loop-index.index run (run_in rs c.loop-index.index run (ap (map (λ r. r.value)) c.deref.ensures.value) c.run_at.ensures))
+    omega (
+      arith,
+      c.loop-index.invariant,
+      c.saturating_add-records.ensures,
+      c.count.ensures.count,
+      count_next rs c.loop-index.index run (run_in rs c.loop-index.index run (ap (map (λ r. r.value)) c.deref.ensures.value) c.run_at.ensures),
+    )
 
 pub returns-clause-runs : goal.returns-clause-runs
 returns-clause-runs c = λ host j stands.
@@ -44,6 +38,10 @@ returns-clause-runs c = λ host j stands.
 pub returns-clause-records : goal.returns-clause-records
 returns-clause-records c = λ host j stands.
     let rs = own_runs c.args.self.now.layers in
-    c.loop-index.invariant
-    ∙ ap (λ l. sum_by run_count l) (take_all c.loop-index.index rs (omega (arith, c.loop-index-test.false, c.len-index-end.ensures, length-map c.args.self.now.layers.runs.items (λ r. r.value))))
-    ∙ all_counted (bytes_of host c.args.self.now.layers.log.file) rs j.layers.closed stands.layers.closed
+    omega (
+      arith,
+      c.loop-index.invariant,
+      ap (λ l. sum_by run_count l) (take_all c.loop-index.index rs (omega (arith, c.loop-index-test.false, c.len-index-end.ensures, length-map c.args.self.now.layers.runs.items (λ r. r.value)))),
+      all_counted (bytes_of host c.args.self.now.layers.log.file) rs j.layers.closed stands.layers.closed,
+      counts_fit host c.args.self.now j c.requires.fit stands,
+    )

@@ -1,4 +1,4 @@
-use Rattle.std.proofs.Common.{◌≡◌, ◌∙◌, ℕ, Option, Result, Err, refl, sym, ap, subst, map}
+use Rattle.std.proofs.Common.{inl, ◌≡◌, ◌∙◌, ℕ, Option, Result, Err, refl, sym, ap, subst, map}
 use Rattle.std.proofs.lemmas.Result.{err_from_is_err_and}
 use Rattle.std.specs.BTreeMap.{BTreeMap}
 use Rattle.std.specs.Global.{Vec}
@@ -48,7 +48,7 @@ returns-in_err-flush g c =
     let same : c.from_residual.result ≡ Err fault = p.1 ∙ ap Err p.2 in
     subst (λ (r : Result (Vec ℕ) Fault). IsWorked (flushing w) before after session (record session { jobs = c.get_mut.follows.lender x }) r) (sym same)
     (fault_worked before after session w live c.requires found c.flush.ensures.only x (c.get_mut.follows.lender x) (c.get_mut.follows.holds x).0 (flushing w) fault
-    (subst (λ (r : Result (Unit {0}) Fault). HasFaultCause before after r) was c.flush.ensures.cause) (λ is. c.flush.ensures.full.0 (was ∙ is), λ some. sym was ∙ c.flush.ensures.full.1 some)
+    (subst (λ (r : Result (Unit {0}) Fault). HasFaultCause before after r) was c.flush.ensures.cause) (λ is. inl (c.flush.ensures.full.0 (was ∙ is))) (λ some. sym was ∙ c.flush.ensures.full.1 some)
     (λ s tells stands is.
     let f = found_job before session s w live stands found in
     subst IsShort (sym f.found) (c.flush.ensures.short f.plain tells f.is (was ∙ ap Err is))))

@@ -1,4 +1,4 @@
-use Rattle.std.proofs.Common.{◌≡◌, ◌∙◌, ℕ, Option, Result, Err, refl, sym, ap, subst, map}
+use Rattle.std.proofs.Common.{inl, ◌≡◌, ◌∙◌, ℕ, Option, Result, Err, refl, sym, ap, subst, map}
 use Rattle.std.proofs.lemmas.Result.{err_from_is_err_and}
 use Rattle.std.specs.BTreeMap.{BTreeMap}
 use Rattle.std.specs.Global.{Vec}
@@ -54,7 +54,7 @@ returns-in_err-answer g c =
     let same : c.from_residual.result ≡ Err fault = p.1 ∙ ap Err p.2 in
     subst (λ (r : Result (Vec ℕ) Fault). IsWorked (operating w op) before after session (record session { jobs = c.get_mut.follows.lender x }) r) (sym same)
     (fault_worked before after session w live c.requires.sound found c.op.ensures.only x (c.get_mut.follows.lender x) (c.get_mut.follows.holds x).0 (operating w op) fault
-    (subst (λ (r : Result OpReply Fault). HasFaultCause before after r) was c.op.ensures.cause) (λ is. c.op.ensures.full.0 (was ∙ is), λ some. sym was ∙ c.op.ensures.full.1 some)
+    (subst (λ (r : Result OpReply Fault). HasFaultCause before after r) was c.op.ensures.cause) (λ is. inl (c.op.ensures.full.0 (was ∙ is))) (λ some. sym was ∙ c.op.ensures.full.1 some)
     (λ s tells stands is.
     let f = found_job before session s w live stands found in
     subst (λ (o : Option Job). IsShort (with_op op o)) (sym f.found) (c.op.ensures.short f.plain tells f.is (was ∙ ap Err is))))

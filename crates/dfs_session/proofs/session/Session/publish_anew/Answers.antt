@@ -56,7 +56,7 @@ returns-in_err-sealed g c =
     let same : c.from_residual.result ≡ Err fault = p.1 ∙ ap Err p.2 in
     subst (λ (r : Result (Vec ℕ) Fault). IsWorked (publishing_anew w c.args.name) before mid session (record session { jobs = jobs }) r) (sym same)
     (fault_worked before mid session w live c.requires.sound found wrote.only x jobs (c.get_mut.follows.holds x).0 (publishing_anew w c.args.name) fault
-    (subst (λ (r : Result Sealed Fault). HasFaultCause before mid r) was wrote.cause) (λ is. wrote.full.0 (was ∙ is), λ some. sym was ∙ wrote.full.1 some)
+    (subst (λ (r : Result Sealed Fault). HasFaultCause before mid r) was wrote.cause) (λ is. wrote.full (was ∙ is)) (λ some. sym was ∙ wrote.refuses some)
     (λ s tells stands is.
     let f = found_job before session s w live stands found in
     subst IsShort (sym f.found) (wrote.short f.plain tells f.is (was ∙ ap Err is))))
@@ -77,7 +77,7 @@ returns-in_err-reply g c =
     let none : NoFault before mid = none_by (none_yet before) wrote.cause (ok Disk c.in_ok-sealed.was) in
     subst (λ (r : Result (Vec ℕ) Fault). IsWorked (publishing_anew w c.args.name) before mid session (record session { jobs = jobs }) r) (sym same)
     (fault_worked before mid session w live c.requires.sound (sym c.in-Some.ensures.value) wrote.only x jobs (c.get_mut.follows.holds x).0 {T = Vec ℕ} (publishing_anew w c.args.name) NoMemory (memory_cause (Err NoMemory) none refl)
-    (λ is. absurd (memory_not_full (ap fault_or is)), λ some. absurd (ok LogFull c.in_ok-sealed.was (wrote.full.1 some))) (λ s tells stands is. absurd (memory_not_full is)))
+    (λ is. absurd (memory_not_full (ap fault_or is))) (λ some. absurd (ok LogFull c.in_ok-sealed.was (wrote.refuses some))) (λ s tells stands is. absurd (memory_not_full is)))
 
 pub list-requires-clause-stands : goal.list-requires-clause-stands
 list-requires-clause-stands g c =
@@ -117,7 +117,7 @@ returns-in_err-list g c =
     (unlisted_worked before mid after session w live c.requires.sound found wrote.only listing.only listed refl listing.images (λ j tells stands. of.changes j tells stands c.args.name) of.settled fault new
     (none_by (none_yet before) wrote.cause (ok Disk c.in_ok-sealed.was)) (subst (λ (r : Result (Unit {0}) Fault). HasFaultCause mid after r) was listing.cause)
     (λ is. listing.memory (was ∙ ap Err is)) (λ is. listing.never_full (was ∙ ap Err is)) (λ file at is. listing.never_changed file at (was ∙ ap Err is))
-    (still_unrefused before mid session w live c.requires.sound found wrote.only x jobs (c.get_mut.follows.holds x).0 (none_unless x.layers.log.refused (λ some. ok LogFull c.in_ok-sealed.was (wrote.full.1 some)))))
+    (still_unrefused before mid session w live c.requires.sound found wrote.only x jobs (c.get_mut.follows.holds x).0 (none_unless x.layers.log.refused (λ some. ok LogFull c.in_ok-sealed.was (wrote.refuses some)))))
 
 pub returns : goal.returns
 returns g c =

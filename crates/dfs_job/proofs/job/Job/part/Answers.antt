@@ -1,0 +1,24 @@
+use Rattle.std.proofs.Common.{◌∙◌, ◌≡◌, ap, sym, subst, refl}
+use Rattle.dfs_job.specs.declared.answers.JobPart.TheVariants.{Last}
+use Rattle.dfs_job.specs.Job.{after_part, merged_as, part_answer, parted_as}
+use Rattle.dfs_job.specs.Stands.{JobStands}
+use Rattle.dfs_job.proofs.Merges.{not_last}
+use Rattle.dfs_job.proofs.job.Job.part.Goals as goal
+
+pub returns-in_default-clause-stands : goal.returns-in_default-clause-stands
+returns-in_default-clause-stands g c = λ j tells stands.
+    let of = c.in_ok-answer.ensures in
+    let answer = of.answer j tells stands in
+    subst (JobStands (g.H.Host.state c.merge.new.host) c.merge.new.self)
+    (not_last c.in_ok-answer.answer j c.args.part c.in_default.not-Last ∙ ap (λ a. parted_as a j c.args.part) answer) (of.stands j tells stands)
+
+pub returns-in_default-clause-sound : goal.returns-in_default-clause-sound
+returns-in_default-clause-sound g c =
+    let of = c.in_ok-answer.ensures in
+    record {
+      fit = of.fit;
+      stands = λ tells.
+          let told = sym of.cause.tells ∙ tells in
+          let one = c.requires.sound.stands told in
+          record { plain = merged_as c.in_ok-answer.answer one.plain c.args.part; stands = of.stands one.plain told one.stands };
+    }

@@ -1,0 +1,17 @@
+-- What a part of a compaction is for the job, and the run of all parts.
+use Rattle.std.specs.Prelude.{nat_lt, cond, List, [], ◌∷◌, length}
+use Rattle.dfs_table.specs.declared.run.Run.{Run}
+use Rattle.dfs_compact.specs.declared.compaction.Parted.{Parted}
+use Rattle.dfs_compact.specs.declared.compaction.Parted.TheVariants as parted
+use Rattle.dfs_job.specs.declared.answers.JobPart.{JobPart}
+use Rattle.dfs_job.specs.declared.answers.JobPart.TheVariants.{Merged, Last, Range, Done}
+
+abbrev pub answer_by : Parted → JobPart
+answer_by parted.Merged = Merged
+answer_by parted.Last = Last
+answer_by parted.Range = Range
+answer_by parted.Done = Done
+
+-- the run, where it has a record
+abbrev pub placed_run : Run → List Run
+placed_run run = cond (nat_lt 0 (length run.tables)) (run ∷ []) []

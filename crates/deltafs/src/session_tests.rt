@@ -128,14 +128,29 @@ fn a_begin_reads_what_no_job_uses(rt: HostRuntime) -> Result<(), Fail> {
         &rt,
         &mut session,
         &mut host,
-        &[(b"c drop", b"ok\n"), (b"e publish s3", b"ok published s3 0\n")],
+        &[
+            (b"c drop", b"ok\n"),
+            (b"e publish s3", b"ok published s3 0\n"),
+        ],
     )?;
     let first = reads_of(&rt, &mut session, &mut host, b"begin f s1", b"ok job 5\n")?;
     assert!(rt; first > 0);
-    let more = reads_of(&rt, &mut session, &mut host, b"begin g s2 s1", b"ok job 6\n")?;
+    let more = reads_of(
+        &rt,
+        &mut session,
+        &mut host,
+        b"begin g s2 s1",
+        b"ok job 6\n",
+    )?;
     assert_eq!(rt; more, first);
     expect_lines(&rt, &mut session, &mut host, &[(b"f drop", b"ok\n")])?;
-    let none = reads_of(&rt, &mut session, &mut host, b"begin h s1 s2", b"ok job 7\n")?;
+    let none = reads_of(
+        &rt,
+        &mut session,
+        &mut host,
+        b"begin h s1 s2",
+        b"ok job 7\n",
+    )?;
     assert_eq!(rt; none, 0);
     Ok(())
 }

@@ -15,6 +15,7 @@ pub enum Command {
 }
 
 const MOST_CREATES: u32 = 1_000_000;
+
 const MOST_DIGITS: usize = 20;
 
 /// What the words ask for, if they have one of the two forms.

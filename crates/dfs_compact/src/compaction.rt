@@ -165,7 +165,15 @@ impl Compaction {
         }
         self.spent = true;
         let left = (MOST_TABLES - self.tables) as u32;
-        let run = write_part(alloc, host, log, &self.sources, &self.plan, index as u16, left)?;
+        let run = write_part(
+            alloc,
+            host,
+            log,
+            &self.sources,
+            &self.plan,
+            index as u16,
+            left,
+        )?;
         let Ok(()) = self.keep(index, run) else {
             return Err(Fault::NoMemory);
         };

@@ -1,8 +1,8 @@
 //! Jobs.
 
+use crate::Settings;
 use crate::applying::apply_to;
 use crate::planning::UnderWay;
-use crate::Settings;
 use crate::publishing::run_at;
 use dfs_buffer::Buffer;
 use dfs_change::Change;

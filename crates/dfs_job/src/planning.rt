@@ -146,12 +146,7 @@ impl Job {
     }
 
     // Merges a part of the plan under way.
-    fn merge<H: Host>(
-        &mut self,
-        alloc: Global,
-        host: &mut H,
-        part: u64,
-    ) -> Result<JobPart, Fault>
+    fn merge<H: Host>(&mut self, alloc: Global, host: &mut H, part: u64) -> Result<JobPart, Fault>
         requires fit { JobIsFit self.old }
         requires some { IsSome self.old.plan }
         requires stand { Told (H.state host.old) (Stand (H.state host.old) self.old.layers) }
@@ -176,7 +171,9 @@ impl Job {
         };
         self.spent = true;
         let mut plan = plan;
-        let parted = plan.compaction.part(alloc, host, &mut self.layers.log, part)?;
+        let parted = plan
+            .compaction
+            .part(alloc, host, &mut self.layers.log, part)?;
         self.plan = Some(plan);
         self.spent = false;
         Ok(answer_of(parted))
@@ -200,7 +197,12 @@ impl Job {
             unreachable!();
         };
         self.spent = true;
-        let Ok(runs) = joined(alloc, plan.compaction.take(), &self.layers.runs, plan.covered) else {
+        let Ok(runs) = joined(
+            alloc,
+            plan.compaction.take(),
+            &self.layers.runs,
+            plan.covered,
+        ) else {
             return Err(Fault::NoMemory);
         };
         self.layers.runs = runs;

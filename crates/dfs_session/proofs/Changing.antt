@@ -128,7 +128,7 @@ module _ (before after : HostState) (session : LiveSession) (word : JobWord) (li
 
       -- `LogFull` exactly where the job's log refused a piece or a run of it would have a table too many
       pub full_with : {T : Type 0} (result : Result T Fault) → (IsErrOf result LogFull → (0 < new.layers.log.refused) ⊎ IsTooLong live) → (0 < new.layers.log.refused → IsErrOf result LogFull) → IsFullWhere result session changed
-      full_with result only refused = record { only = λ is. elim (only is) [ | inl holds ↦ inl (now_refused holds) | inr many ↦ inr (too_long many) ]; refused = λ holds. refused (some holds) }
+      full_with result only refused = record { only = λ is. elim (only is) [ inl holds ↦ inl (now_refused holds) | inr many ↦ inr (too_long many) ]; refused = λ holds. refused (some holds) }
         where
           some : IsTrue (has_refused changed) → 0 < new.layers.log.refused
           some holds = by new.layers.log.refused refl

@@ -1,4 +1,4 @@
-ghost use Rattle.std.specs.Prelude.{OnOk};
+ghost use Rattle.std.specs.Prelude.{IfOk, OnOk};
 ghost use Rattle.dfs_mem.specs.MemHost.{state_of};
 ghost use Rattle.dfs_session.specs.Sound.{IsSound};
 
@@ -68,7 +68,7 @@ fn reads_of(
 }
 
 fn opened(alloc: Global, host: &mut MemHost) -> Result<Session, Fail>
-    ensures { OnOk result (IsSound (state_of host.new) session) }
+    ensures { IfOk result (IsSound (state_of host.new)) }
 {
     match Session::open(alloc, host, Settings::DEFAULT) {
         Ok(session) => Ok(session),

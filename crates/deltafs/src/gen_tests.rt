@@ -65,18 +65,22 @@ fn words_of(alloc: Global, words: &[&str]) -> Result<Vec<String>, Fail> {
     Ok(given)
 }
 
+fn expect_bytes(rt: &impl Abort, given: &[u8], expected: &[u8]) -> Result<(), Fail> {
+    assert_eq!(rt; given, expected);
+    Ok(())
+}
+
 fn expect(rt: &impl Abort, alloc: Global, case: &Case) -> Result<(), Fail> {
     let words = words_of(alloc, case.words)?;
     let failing = vec![in alloc; (Call::Say, case.failing)]?;
     let mut host = MemHost::new(alloc, Vec::new(alloc), failing)?;
     let mut source = MemSource::new(LEFT.to_vec(alloc)?, Vec::new(alloc), Vec::new(alloc));
     let status = run(alloc, &words, &mut host, &mut source);
-    assert_eq!(rt; status, case.status, "{:?}", case.words);
-    assert_eq!(rt; host.said(), case.said, "{:?}", case.words);
+    assert_eq!(rt; status, case.status);
+    expect_bytes(rt, host.said(), case.said)?;
     let mut left = [0u8; 16];
     let count = source.take(&mut left)?;
-    assert_eq!(rt; &left[..count], LEFT);
-    Ok(())
+    expect_bytes(rt, &left[..count], LEFT)
 }
 
 #[test]

@@ -15,7 +15,7 @@ use Rattle.dfs_reply.specs.declared.Word.TheVariants as word
 use Rattle.dfs_reply.specs.Text.{text}
 use Rattle.dfs_script.specs.declared.JobWord.{JobWord}
 use Rattle.dfs_script.specs.declared.Line.{Line}
-use Rattle.dfs_script.specs.declared.Line.TheVariants.{Nothing, Set, Snapshots, Begin, Space, Flush, Stats, Publish, End}
+use Rattle.dfs_script.specs.declared.Line.TheVariants.{Nothing, Set, Snapshots, Begin, Space, Flush, Plan, Part, Stats, Publish, End}
 use Rattle.dfs_script.specs.declared.LineFault.{LineFault}
 use Rattle.dfs_script.specs.declared.LineFault.TheVariants.{Long, Syntax, NoMemory}
 use Rattle.dfs_script.specs.Line.{meaning}
@@ -23,7 +23,7 @@ use Rattle.dfs_script.specs.Script.{lines_of}
 use Rattle.dfs_session.specs.Files.{value}
 use Rattle.dfs_job.specs.Job.{Job, after_flush, does, key_count, own_changes, run_count}
 use Rattle.dfs_session.specs.Run.{session_after, written, output, Promise, promise_of, promises, published}
-use Rattle.dfs_session.specs.Session.{Session, Publication, Registry, Step, opened, step, after_meaning, after_command, begins, begins_unless, chosen, is_damaged, is_full, is_published, live_job, of_live, operates, publication_by, publishes, publishes_anew, refused, stays, with_job, without_job}
+use Rattle.dfs_session.specs.Session.{Session, Publication, Registry, Step, opened, step, after_meaning, after_command, begins, begins_unless, chosen, is_damaged, is_full, is_published, live_job, merges_with, of_live, operates, plans_with, publication_by, publishes, publishes_anew, refused, stays, with_job, without_job}
 use Rattle.dfs_session.proofs.Runs.{written-append, promises-append}
 use Rattle.deltafs.specs.Keeps.{acknowledged, IsAhead, KeepsReplies}
 
@@ -74,6 +74,8 @@ command_adds s Nothing = inl refl
 command_adds s (Set what value) = inl refl
 command_adds s Snapshots = inl refl
 command_adds s (Flush w) = of_live_adds (live_job s w) s (λ j. record { session = with_job s w (after_flush j); reply = OkReply }) (λ j. inl refl)
+command_adds s (Plan w scope parts) = of_live_adds (live_job s w) s (λ j. plans_with s w j scope parts) (λ j. inl refl)
+command_adds s (Part w part) = of_live_adds (live_job s w) s (λ j. merges_with s w j part) (λ j. inl refl)
 command_adds s (Stats w) = of_live_adds (live_job s w) s (λ j. stays s (StatsReply (run_count j) (key_count j))) (λ j. inl refl)
 command_adds s (Begin w names) = begins_adds s w names
 command_adds s (Space w op) = of_live_adds (live_job s w) s (λ j. operates s w j (does j op)) (λ j. inl refl)

@@ -95,6 +95,14 @@ pub enum Word {
     NotEmpty,
     /// A directory would be moved below itself.
     Inside,
+    /// Another plan is under way.
+    Busy,
+    /// No plan is under way.
+    NoPlan,
+    /// The plan has no part with this number.
+    Range,
+    /// The part was merged before.
+    Done,
 }
 
 /// The reply to a line.
@@ -108,6 +116,8 @@ pub enum Reply {
     Stat(Entry),
     Listing(Listing),
     Snapshots(SnapList),
+    /// The last part of a plan was merged.
+    Merged,
     /// A job has so many runs, and so many records in them.
     Stats { runs: u64, records: u64 },
     /// A snapshot of this name was published, with this count of records.

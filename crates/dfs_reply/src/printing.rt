@@ -16,6 +16,8 @@ const ERROR: &[u8] = b"error";
 
 const JOB: &[u8] = b"job";
 
+const MERGED: &[u8] = b"merged";
+
 const RUNS: &[u8] = b"runs";
 
 const RECORDS: &[u8] = b"records";
@@ -73,6 +75,7 @@ fn write_reply(reply: &Reply, out: &mut Vec<u8>) -> Result<(), NoMemory>
         Reply::Stat(entry) => write_entry(Piece::Text(OK), entry, out),
         Reply::Listing(listing) => write_listing(listing, out),
         Reply::Snapshots(snapshots) => write_snapshots(snapshots, out),
+        Reply::Merged => write_line(Piece::Text(OK), &[Piece::Text(MERGED)], out),
         Reply::Stats { runs, records } => write_stats(*runs, *records, out),
         Reply::Published { name, count } => write_line(
             Piece::Text(OK),
@@ -110,6 +113,10 @@ fn spelling(word: Word) -> &'static [u8]
         Word::Exists => b"exists",
         Word::NotEmpty => b"notempty",
         Word::Inside => b"inside",
+        Word::Busy => b"busy",
+        Word::NoPlan => b"noplan",
+        Word::Range => b"range",
+        Word::Done => b"done",
     }
 }
 

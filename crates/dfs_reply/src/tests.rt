@@ -90,6 +90,7 @@ fn replies_have_their_texts(rt: HostRuntime) -> Result<(), Fail> {
         },
         b"ok runs 0 records 18446744073709551615\n",
     )?;
+    shows(&rt, alloc, Reply::Merged, b"ok merged\n")?;
     shows(&rt, alloc, published(alloc)?, b"ok published raw 2003\n")?;
     shows(
         &rt,

@@ -1,6 +1,6 @@
 -- What is read is valid.
 use Rattle.std.proofs.Common.{◌≡◌, ◌≤◌, ◌<◌, ◌^◌, ℕ, List, length, sym, subst, inl, inr, arith}
-use Rattle.std.specs.Prelude.{◌&&◌, nat_lt, Some, Result, Ok, Err, IfOk}
+use Rattle.std.specs.Prelude.{◌&&◌, nat_lt, Option, Some, None, IsTrue, IfSome, Result, Ok, Err, IfOk}
 use Rattle.std.specs.List.{list_all}
 use Rattle.std.proofs.lemmas.Bool.{ltb-true}
 use Rattle.dfs_record.specs.Name.{is_between, is_digit, is_reference, IsReference}
@@ -12,12 +12,13 @@ use Rattle.dfs_path.specs.Op.{IsNumber, IsOp}
 use Rattle.dfs_record.specs.Record.{IsMode}
 use Rattle.dfs_path.proofs.Paths.{path_is_valid}
 use Rattle.dfs_script.specs.declared.Line.{Line}
-use Rattle.dfs_script.specs.declared.Line.TheVariants.{Nothing, Set, Snapshots, Begin, Space, Flush, Stats, Publish, End}
+use Rattle.dfs_script.specs.declared.Line.TheVariants.{Nothing, Set, Snapshots, Begin, Space, Flush, Plan, Part, Stats, Publish, End}
 use Rattle.dfs_script.specs.declared.LineFault.{LineFault}
-use Rattle.dfs_script.specs.Grammar.{IsOpForm, IsForm}
+use Rattle.dfs_script.specs.Grammar.{IsOpForm, IsPartsForm, IsForm}
 use Rattle.dfs_script.specs.Line.{without_cr, meaning}
 use Rattle.dfs_script.specs.Means.{Says}
 use Rattle.dfs_script.specs.Read.{IsMeaning}
+use Rattle.dfs_script.specs.Scopes.{is_parts}
 use Rattle.dfs_script.specs.Valid.{IsLine}
 use Rattle.dfs_script.specs.Word.{worth, number_of, mode_of, is_octal_digit, reference_of}
 use Rattle.dfs_script.proofs.Meanings.{means_one}
@@ -54,6 +55,10 @@ op_is_valid ws (Setattr path mode time) (p, m, t, _, is_path, is_mode, is_time) 
 op_is_valid ws (Stat path) (p, _, is_path) = path_is_valid p path is_path
 op_is_valid ws (ListOp path) (p, _, is_path) = path_is_valid p path is_path
 
+parts_are_valid : (ws : List (List ℕ)) (parts : Option ℕ) → IsPartsForm ws parts → IfSome parts (λ n. IsTrue (is_parts n))
+parts_are_valid ws None form = tt
+parts_are_valid ws (Some parts) (_, _, _, in_range) = in_range
+
 form_is_valid : (ws : List (List ℕ)) (line : Line) → IsForm ws line → IsLine line
 form_is_valid ws Nothing form = tt
 form_is_valid ws (Set what value) (_, _, _, in_range) = in_range
@@ -61,6 +66,8 @@ form_is_valid ws Snapshots form = tt
 form_is_valid ws (Begin job names) (_, j, valid) = (j, valid)
 form_is_valid ws (Space job op) (rest, _, j, form) = (j, op_is_valid rest op form)
 form_is_valid ws (Flush job) (_, j) = j
+form_is_valid ws (Plan job scope parts) (rest, _, j, form) = (j, parts_are_valid rest parts form)
+form_is_valid ws (Part job part) (n, _, j, is_number) = (j, number_is_valid n part is_number)
 form_is_valid ws (Stats job) (_, j) = j
 form_is_valid ws (Publish job name) (_, j, valid) = (j, valid)
 form_is_valid ws (End job) (_, j) = j

@@ -2,7 +2,7 @@ use super::*;
 use dfs_path::Op;
 use std::test::*;
 
-const SAID: [&[u8]; 16] = [
+const SAID: [&[u8]; 18] = [
     b"snapshots",
     b"  snapshots  ",
     b"snapshots\r",
@@ -19,6 +19,8 @@ const SAID: [&[u8]; 16] = [
     b"begins drop",
     b"a flush",
     b"a stats",
+    b"own plan own",
+    b"part part 18446744073709551615",
 ];
 
 // Lines that set a value, with the setting and the value.
@@ -44,7 +46,7 @@ const SETTINGS: [(&[u8], Setting, u64); 9] = [
 
 const SILENT: [&[u8]; 6] = [b"", b"\r", b"   ", b"#", b"# set\tbuffer \xff", b"#\r\r"];
 
-const FAULTS: [&[u8]; 61] = [
+const FAULTS: [&[u8]; 72] = [
     b"\r\r",
     b"snapshots\r\r",
     b"snapshots now",
@@ -88,8 +90,19 @@ const FAULTS: [&[u8]; 61] = [
     b"set stats",
     b"flush",
     b"stats",
-    b"a plan own",
-    b"a part 0",
+    b"plan",
+    b"a plan",
+    b"a plan 4",
+    b"a plan Own",
+    b"a plan own all",
+    b"a plan own 0",
+    b"a plan own 257",
+    b"a plan all 65537",
+    b"a plan all 4 4",
+    b"part",
+    b"a part",
+    b"a part 0 1",
+    b"a part 18446744073709551616",
     b"a publish",
     b"a mkdir / 0",
     b"a mkdir / 0 0 0",
@@ -119,6 +132,8 @@ fn each_command(rt: HostRuntime) {
                         | Line::Begin { .. }
                         | Line::Space { .. }
                         | Line::Flush { .. }
+                        | Line::Plan { .. }
+                        | Line::Part { .. }
                         | Line::Stats { .. }
                         | Line::End { .. }
                 )
@@ -199,6 +214,32 @@ fn the_names_of_snapshots(rt: HostRuntime) -> Result<(), Fail> {
         return Err("a publish")?;
     };
     assert_eq!(rt; name.bytes(), b"s".as_slice());
+    Ok(())
+}
+
+// Lines of plans, with the scope and the number of parts.
+const PLANS: [(&[u8], Scope, Option<u16>); 5] = [
+    (b"a plan own", Scope::Own, None),
+    (b"a  plan all \r", Scope::All, None),
+    (b"a plan own 1", Scope::Own, Some(1)),
+    (b"a plan all 00000000000000000256", Scope::All, Some(256)),
+    (b"a plan all 0004", Scope::All, Some(4)),
+];
+
+#[test]
+fn the_parts_of_plans(rt: HostRuntime) -> Result<(), Fail> {
+    for (line, asked, number) in PLANS {
+        let Ok(Line::Plan { scope, parts, .. }) = read_line(rt.alloc(), line) else {
+            return Err("a plan")?;
+        };
+        assert_eq!(rt; scope, asked, "{line:?}");
+        assert_eq!(rt; parts, number, "{line:?}");
+    }
+    let line = read_line(rt.alloc(), b"a part 0256");
+    let Ok(Line::Part { part, .. }) = &line else {
+        return Err("a part")?;
+    };
+    assert_eq!(rt; *part, 256);
     Ok(())
 }
 

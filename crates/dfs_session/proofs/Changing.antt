@@ -1,7 +1,8 @@
 -- Lines of a live job: an operation, a flush, and its end.
-use Rattle.std.proofs.Common.{inl, inr, ◌≡◌, ◌≢◌, ◌∙◌, ◌≤◌, ◌<◌, ◌⊎◌, ℕ, zero, suc, Bool, true, false, Option, Some, None, Result, Err, refl, sym, ap, subst, arith}
-use Rattle.std.proofs.lemmas.Bool.{lt-ltb}
-use Rattle.std.specs.Prelude.{IfOk, IfNone, OnOk, IsErrOf, IsTrue, is_some, nat_lt}
+use Rattle.std.proofs.Common.{inl, inr, ◌≡◌, ◌≢◌, ◌∙◌, ◌≤◌, ◌<◌, ◌⊎◌, ℕ, zero, suc, Bool, true, false, [], map, Option, Some, None, Result, Err, refl, sym, ap, subst, arith}
+use Rattle.std.proofs.lemmas.Bool.{leb-true, lt-ltb}
+use mathlib.Core.Bool.{true≢false}
+use Rattle.std.specs.Prelude.{◌&&◌, IfOk, IfNone, IfSome, OnOk, IsErrOf, IsTrue, is_some, nat_le, nat_lt}
 use Rattle.std.specs.BTreeMap.{BTreeMap, is_at}
 use Rattle.std.specs.Global.{Vec}
 use Rattle.std.specs.List.{AllByRecursion, AllZip, list_any}
@@ -16,6 +17,7 @@ use Rattle.dfs_registry.specs.Body.{lists_job}
 use Rattle.dfs_registry.specs.Standing.{RegistryStands}
 use Rattle.dfs_reply.specs.declared.Reply.TheVariants.{Ok as OkReply}
 use Rattle.dfs_reply.specs.Text.{text}
+use Rattle.dfs_script.specs.Scopes.{is_parts}
 use Rattle.dfs_script.specs.declared.JobWord.{JobWord}
 use Rattle.dfs_view.specs.Layers.{selected}
 use Rattle.dfs_job.specs.declared.job.Job.{Job as LiveJob}
@@ -41,6 +43,15 @@ use Rattle.dfs_session.proofs.Working.{OnlyMemory, ended_names, on_ok, same_name
 
 abbrev Jobs : Type 0
 Jobs = BTreeMap JobWord LiveJob
+
+-- how many parts a line asks for
+pub parts_within : (parts : Option ℕ) → IfSome parts (λ n. IsTrue (is_parts n)) → IfSome parts (λ n. (1 ≤ n) × (n ≤ 256))
+parts_within None within = tt
+parts_within (Some n) within = (leb-true 1 n (both (nat_le 1 n) (nat_le n 256) within).0, leb-true n 256 (both (nat_le 1 n) (nat_le n 256) within).1)
+  where
+    both : (a b : Bool) → (a && b) ≡ true → (a ≡ true) × (b ≡ true)
+    both true b e = (refl, e)
+    both false b e = absurd (true≢false (sym e))
 
 -- whether there is a job
 pub none_of : (o : Option LiveJob) → is_some o ≡ false → o ≡ None
@@ -137,7 +148,15 @@ module _ (before after : HostState) (session : LiveSession) (word : JobWord) (li
               by zero none = absurd (not_true (has_refused changed) (still_unrefused none) holds)
               by (suc n) is = omega arith
 
-      pub changed_sound : JobIsSound after new → new.ids.job ≡ live.ids.job → selected new.layers ≡ selected live.layers → IsSound after changed
+      -- the same basis, and an empty one, have listed jobs alone
+      pub same_basis : selected new.layers ≡ selected live.layers → AllByRecursion (IsListed (listed_in session)) (selected new.layers)
+      same_basis same = subst (AllByRecursion (IsListed (listed_in session))) (sym same) was_live.basis
+
+      pub left_basis : (new.layers.basis.items ≡ live.layers.basis.items) ⊎ (new.layers.basis.items ≡ []) → AllByRecursion (IsListed (listed_in session)) (selected new.layers)
+      left_basis (inl same) = same_basis (ap (map (λ c. c.value)) same)
+      left_basis (inr none) = subst (AllByRecursion (IsListed (listed_in session))) (sym (ap (map (λ c. c.value)) none)) tt
+
+      pub changed_sound : JobIsSound after new → new.ids.job ≡ live.ids.job → AllByRecursion (IsListed (listed_in session)) (selected new.layers) → IsSound after changed
       changed_sound is same basis = record {
         memory = record {
           live = sound.memory.live;
@@ -151,7 +170,7 @@ module _ (before after : HostState) (session : LiveSession) (word : JobWord) (li
                 fit = is.fit;
                 numbered = subst (λ (n : ℕ). n ≤ session.greatest) (sym same) was_live.numbered;
                 unlisted = subst (λ (n : ℕ). lists_job (listed_in session) n ≡ false) (sym same) was_live.unlisted;
-                basis = subst (AllByRecursion (IsListed (listed_in session))) (sym basis) was_live.basis;
+                basis = basis;
               })
               sound.memory.jobs);
           apart = subst AreApart (sym set) (apart_set test (jobs_of session) live new found same sound.memory.apart);
@@ -202,7 +221,7 @@ module _ (before after : HostState) (session : LiveSession) (word : JobWord) (li
 
       -- a call on the job that was answered, and then the text of the reply
       pub answered_worked : (work : Work) (next : (s : Session) → Found before s word live → Step) (result : Result (Vec ℕ) Fault) → NoFault before after → new.layers.log.refused ≡ 0 → session.settings ≡ work.settings session.settings
-          → JobIsSound after new → new.ids.job ≡ live.ids.job → selected new.layers ≡ selected live.layers
+          → JobIsSound after new → new.ids.job ≡ live.ids.job → AllByRecursion (IsListed (listed_in session)) (selected new.layers)
           → ((s : Session) (f : Found before s word live) → work.step s ≡ next s f) → ((s : Session) (f : Found before s word live) → (next s f).session.registry ≡ s.registry)
           → ((s : Session) (f : Found before s word live) → IsTrue before.tells → IfOk result (λ bytes. bytes.items ≡ text (next s f).reply))
           → ((s : Session) (f : Found before s word live) → IsTrue before.tells → Stands before session s → Stands after changed (next s f).session) → OnlyMemory result → (work.quiet session → ⊥) → IsWorked work before after session changed result

@@ -11,23 +11,28 @@ use Rattle.dfs_record.specs.declared.SnapName.{SnapName}
 use Rattle.dfs_record.specs.KeyMap.{len}
 use Rattle.dfs_record.specs.Delta.{Delta}
 use Rattle.dfs_path.specs.declared.Op.{Op}
+use Rattle.dfs_path.specs.declared.Scope.{Scope}
 use Rattle.dfs_ops.specs.declared.OpReply.{OpReply}
 use Rattle.dfs_ops.specs.declared.OpReply.TheVariants.{Done as OpDone, Entry as OpEntry, Listing as OpListing, Root as OpRoot, NoEnt as OpNoEnt, NotDir as OpNotDir, IsDir as OpIsDir, Exists as OpExists, NotEmpty as OpNotEmpty, Inside as OpInside, Full as OpFull}
 use Rattle.dfs_ops.specs.Op.{Outcome}
 use Rattle.dfs_script.specs.declared.JobWord.{JobWord}
 use Rattle.dfs_script.specs.declared.Line.{Line}
-use Rattle.dfs_script.specs.declared.Line.TheVariants.{Nothing, Set, Snapshots, Begin, Space, Flush, Stats, Publish, End}
+use Rattle.dfs_script.specs.declared.Line.TheVariants.{Nothing, Set, Snapshots, Begin, Space, Flush, Plan, Part, Stats, Publish, End}
 use Rattle.dfs_script.specs.declared.Setting.{Setting}
 use Rattle.dfs_script.specs.declared.Setting.TheVariants as setting
 use Rattle.dfs_script.specs.declared.LineFault.{LineFault}
 use Rattle.dfs_script.specs.declared.LineFault.TheVariants.{Long, Syntax, NoMemory}
 use Rattle.dfs_script.specs.Line.{meaning}
 use Rattle.dfs_reply.specs.declared.Reply.{Reply}
-use Rattle.dfs_reply.specs.declared.Reply.TheVariants.{Nothing as NoReply, Ok as OkReply, Job as JobReply, Stat as StatReply, Listing as ListingReply, Snapshots as SnapshotsReply, Stats as StatsReply, Published as PublishedReply, Damaged as DamagedReply, Error}
+use Rattle.dfs_reply.specs.declared.Reply.TheVariants.{Nothing as NoReply, Ok as OkReply, Job as JobReply, Stat as StatReply, Listing as ListingReply, Snapshots as SnapshotsReply, Merged as MergedReply, Stats as StatsReply, Published as PublishedReply, Damaged as DamagedReply, Error}
 use Rattle.dfs_reply.specs.declared.Word.{Word}
 use Rattle.dfs_reply.specs.declared.Word.TheVariants as word
 use Rattle.dfs_job.specs.declared.settings.Settings.{Settings}
-use Rattle.dfs_job.specs.Job.{Job, begun, does, after, after_flush, key_count, own_changes, run_count}
+use Rattle.dfs_job.specs.declared.answers.Planned.{Planned}
+use Rattle.dfs_job.specs.declared.answers.Planned.TheVariants as planned
+use Rattle.dfs_job.specs.declared.answers.JobPart.{JobPart}
+use Rattle.dfs_job.specs.declared.answers.JobPart.TheVariants as parted
+use Rattle.dfs_job.specs.Job.{Job, begun, does, after, after_flush, after_part, after_plan, key_count, own_changes, part_answer, plan_answer, run_count}
 
 -- A publication: its name, its job, and its change set, or None where its log is damaged.
 pub record Publication : Type 0 where
@@ -160,6 +165,25 @@ told OpFull = Error word.Full
 abbrev pub operates : Session → JobWord → Job → Outcome → Step
 operates s w j o = record { session = with_job s w (after j o); reply = told o.answer }
 
+-- the reply that tells what became of a plan, and of a part
+abbrev pub told_of_plan : Planned → Reply
+told_of_plan planned.Made = OkReply
+told_of_plan planned.Busy = Error word.Busy
+told_of_plan planned.Full = Error word.Full
+
+abbrev pub told_of_part : JobPart → Reply
+told_of_part parted.Merged = OkReply
+told_of_part parted.Last = MergedReply
+told_of_part parted.NoPlan = Error word.NoPlan
+told_of_part parted.Range = Error word.Range
+told_of_part parted.Done = Error word.Done
+
+abbrev pub plans_with : Session → JobWord → Job → Scope → Option ℕ → Step
+plans_with s w j scope parts = record { session = with_job s w (after_plan j scope parts); reply = told_of_plan (plan_answer j) }
+
+abbrev pub merges_with : Session → JobWord → Job → ℕ → Step
+merges_with s w j part = record { session = with_job s w (after_part j part); reply = told_of_part (part_answer j part) }
+
 abbrev pub publication_by : Job → SnapName → Publication
 publication_by j name = record { name = name; job = j.ids.job; change = Some (own_changes j) }
 
@@ -192,6 +216,12 @@ operates_for s w op = of_job s w (λ j. operates s w j (does j op))
 abbrev pub flushes : Session → JobWord → Step
 flushes s w = of_job s w (λ j. record { session = with_job s w (after_flush j); reply = OkReply })
 
+abbrev pub plans : Session → JobWord → Scope → Option ℕ → Step
+plans s w scope parts = of_job s w (λ j. plans_with s w j scope parts)
+
+abbrev pub merges : Session → JobWord → ℕ → Step
+merges s w part = of_job s w (λ j. merges_with s w j part)
+
 abbrev pub tells_stats : Session → JobWord → Step
 tells_stats s w = of_job s w (λ j. stays s (StatsReply (run_count j) (key_count j)))
 
@@ -216,6 +246,8 @@ after_command s Snapshots = tells_snapshots s
 after_command s (Begin w names) = begins s w names
 after_command s (Space w op) = operates_for s w op
 after_command s (Flush w) = flushes s w
+after_command s (Plan w scope parts) = plans s w scope parts
+after_command s (Part w part) = merges s w part
 after_command s (Stats w) = tells_stats s w
 after_command s (Publish w name) = publishes_for s w name
 after_command s (End w) = ends s w

@@ -17,18 +17,19 @@ use Rattle.dfs_session.specs.Images.{HoldsEither}
 use Rattle.dfs_record.specs.declared.SnapName.{SnapName}
 use Rattle.dfs_record.specs.Delta.{Delta}
 use Rattle.dfs_path.specs.declared.Op.{Op}
+use Rattle.dfs_path.specs.declared.Scope.{Scope}
 use Rattle.dfs_script.specs.declared.JobWord.{JobWord}
 use Rattle.dfs_script.specs.declared.Line.{Line}
-use Rattle.dfs_script.specs.declared.Line.TheVariants.{Nothing, Set, Snapshots, Begin, Space, Flush, Stats, Publish, End}
+use Rattle.dfs_script.specs.declared.Line.TheVariants.{Nothing, Set, Snapshots, Begin, Space, Flush, Plan, Part, Stats, Publish, End}
 use Rattle.dfs_script.specs.declared.LineFault.{LineFault}
 use Rattle.dfs_script.specs.declared.Setting.{Setting}
 use Rattle.dfs_script.specs.Line.{meaning}
 use Rattle.dfs_job.specs.declared.settings.Settings.{Settings}
 use Rattle.dfs_job.specs.declared.job.Job.{Job as LiveJob}
-use Rattle.dfs_job.specs.Job.{Job, after, does, need}
+use Rattle.dfs_job.specs.Job.{Job, after, after_plan, does, need}
 use Rattle.dfs_job.specs.Stands.{most_blocks}
 use Rattle.dfs_session.specs.Selected.{is_selected}
-use Rattle.dfs_session.specs.Session.{Session, Step, after_command, after_meaning, begins, begins_over, flushes, live_job, of_job, operates_for, publishes_anew, publishes_for, sets, with_setting}
+use Rattle.dfs_session.specs.Session.{Session, Step, after_command, after_meaning, begins, begins_over, flushes, live_job, merges, of_job, operates_for, plans, publishes_anew, publishes_for, sets, with_setting}
 use Rattle.dfs_session.specs.Kept.{begin_in}
 use Rattle.dfs_session.specs.Sound.{IsSound, jobs_of, number_of}
 use Rattle.dfs_session.specs.Stands.{Stands, LeavesValue}
@@ -95,6 +96,17 @@ operating w op = record (plain (λ s. operates_for s w op)) { job = λ s. with_o
 abbrev pub flushing : JobWord → Work
 flushing w = record (plain (λ s. flushes s w)) { job = λ s. live_job s w }
 
+-- the job with a plan more
+abbrev pub with_plan_made : Scope → Option ℕ → Option Job → Option Job
+with_plan_made scope parts None = None
+with_plan_made scope parts (Some j) = Some (after_plan j scope parts)
+
+abbrev pub planning : JobWord → Scope → Option ℕ → Work
+planning w scope parts = record (plain (λ s. plans s w scope parts)) { job = λ s. with_plan_made scope parts (live_job s w) }
+
+abbrev pub merging : JobWord → ℕ → Work
+merging w part = record (plain (λ s. merges s w part)) { job = λ s. live_job s w }
+
 abbrev pub publishing : JobWord → SnapName → Work
 publishing w name = record (plain (λ s. publishes_for s w name)) { job = λ s. live_job s w }
 
@@ -110,6 +122,8 @@ job_of s Snapshots = None
 job_of s (Begin w names) = None
 job_of s (Space w op) = with_op op (live_job s w)
 job_of s (Flush w) = live_job s w
+job_of s (Plan w scope parts) = with_plan_made scope parts (live_job s w)
+job_of s (Part w part) = live_job s w
 job_of s (Stats w) = None
 job_of s (Publish w name) = live_job s w
 job_of s (End w) = None
@@ -122,6 +136,8 @@ settings_of t Snapshots = t
 settings_of t (Begin w names) = t
 settings_of t (Space w op) = t
 settings_of t (Flush w) = t
+settings_of t (Plan w scope parts) = t
+settings_of t (Part w part) = t
 settings_of t (Stats w) = t
 settings_of t (Publish w name) = t
 settings_of t (End w) = t
@@ -134,6 +150,8 @@ IsQuiet Snapshots session = ⊥
 IsQuiet (Begin w names) session = AreSelected names session
 IsQuiet (Space w op) session = ⊥
 IsQuiet (Flush w) session = ⊥
+IsQuiet (Plan w scope parts) session = ⊥
+IsQuiet (Part w part) session = ⊥
 IsQuiet (Stats w) session = ⊥
 IsQuiet (Publish w name) session = ⊥
 IsQuiet (End w) session = ⊥
@@ -146,6 +164,8 @@ names_of Snapshots = None
 names_of (Begin w names) = Some names
 names_of (Space w op) = None
 names_of (Flush w) = None
+names_of (Plan w scope parts) = None
+names_of (Part w part) = None
 names_of (Stats w) = None
 names_of (Publish w name) = None
 names_of (End w) = None

@@ -1,14 +1,15 @@
 //! The commands of a live job, and the list of snapshots.
 
 ghost use Rattle.std.specs.Prelude.{◌≡◌, map, IfOk, IfErr};
-ghost use Rattle.dfs_session.specs.Session.{told as told_by};
+ghost use Rattle.dfs_session.specs.Session.{told as told_by, told_of_part as part_told, told_of_plan as plan_told};
 
 use crate::Session;
 use crate::session::text_of;
 use crate::settings::with_setting;
 use dfs_host::{Fault, Host};
+use dfs_job::{JobPart, Planned};
 use dfs_ops::OpReply;
-use dfs_path::Op;
+use dfs_path::{Op, Scope};
 use dfs_registry::Registry;
 use dfs_reply::{Reply, SnapList, Word};
 use dfs_script::{JobWord, Setting};
@@ -33,6 +34,30 @@ fn told(answer: OpReply) -> Reply
     }
 }
 
+// The reply that tells what became of a plan.
+fn told_of_plan(planned: Planned) -> Reply
+    ensures { result ≡ plan_told planned }
+{
+    match planned {
+        Planned::Made => Reply::Ok,
+        Planned::Busy => Reply::Error(Word::Busy),
+        Planned::Full => Reply::Error(Word::Full),
+    }
+}
+
+// The reply that tells what became of a part.
+fn told_of_part(part: JobPart) -> Reply
+    ensures { result ≡ part_told part }
+{
+    match part {
+        JobPart::Merged => Reply::Ok,
+        JobPart::Last => Reply::Merged,
+        JobPart::NoPlan => Reply::Error(Word::NoPlan),
+        JobPart::Range => Reply::Error(Word::Range),
+        JobPart::Done => Reply::Error(Word::Done),
+    }
+}
+
 // The names and jobs of the publications, in the registry's order.
 fn snapshots(alloc: Global, registry: &Registry) -> Result<SnapList, Fault>
     ensures list { IfOk result (λ list. list ≡ map (λ l. (l.name, l.job)) registry.now.entries) }
@@ -52,12 +77,13 @@ fn snapshots(alloc: Global, registry: &Registry) -> Result<SnapList, Fault>
 }
 
 impl Session {
-    ghost use Rattle.std.specs.Prelude.{◌≡◌, IsTrue};
+    ghost use Rattle.std.specs.Prelude.{◌≡◌, IfSome, IsTrue};
     ghost use Rattle.dfs_path.specs.Op.{IsOp};
+    ghost use Rattle.dfs_script.specs.Scopes.{is_parts};
     ghost use Rattle.dfs_script.specs.Settings.{is_in_range};
     ghost use Rattle.dfs_session.specs.Session.{tells_snapshots, tells_stats, ends};
     ghost use Rattle.dfs_session.specs.Sound.{IsSound, IsSoundInMemory};
-    ghost use Rattle.dfs_session.specs.Worked.{IsWorked, IsWorkedInMemory, flushing, operating, plain, setting};
+    ghost use Rattle.dfs_session.specs.Worked.{IsWorked, IsWorkedInMemory, flushing, merging, operating, plain, planning, setting};
 
     /// Sets what jobs that begin later are given.
     pub(crate) fn set(&mut self, what: Setting, value: u64) -> Result<Vec<u8>, Fault>
@@ -106,6 +132,42 @@ impl Session {
         };
         job.flush(self.alloc, host)?;
         text_of(self.alloc, &Reply::Ok)
+    }
+
+    /// Begins a plan of a live job.
+    pub(crate) fn plan<H: Host>(
+        &mut self,
+        host: &mut H,
+        word: &JobWord,
+        scope: Scope,
+        parts: Option<u16>,
+    ) -> Result<Vec<u8>, Fault>
+        requires sound { IsSound (H.state host.old) self.old }
+        requires parts { IfSome parts (λ n. IsTrue (is_parts n)) }
+        ensures { IsWorked (planning word.now scope parts) (H.state host.old) (H.state host.new) self.old self.new result }
+    {
+        let Some(job) = self.jobs.get_mut(word) else {
+            return text_of(self.alloc, &Reply::Error(Word::NoJob));
+        };
+        let answer = job.plan(self.alloc, host, scope, parts)?;
+        text_of(self.alloc, &told_of_plan(answer))
+    }
+
+    /// Merges a part of the plan of a live job.
+    pub(crate) fn part<H: Host>(
+        &mut self,
+        host: &mut H,
+        word: &JobWord,
+        part: u64,
+    ) -> Result<Vec<u8>, Fault>
+        requires { IsSound (H.state host.old) self.old }
+        ensures { IsWorked (merging word.now part) (H.state host.old) (H.state host.new) self.old self.new result }
+    {
+        let Some(job) = self.jobs.get_mut(word) else {
+            return text_of(self.alloc, &Reply::Error(Word::NoJob));
+        };
+        let answer = job.part(self.alloc, host, part)?;
+        text_of(self.alloc, &told_of_part(answer))
     }
 
     /// Tells how many closed layers a live job has, and how many keys are in them.

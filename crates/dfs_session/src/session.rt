@@ -179,6 +179,8 @@ impl Session {
             Line::Begin { job, names } => self.begin(host, job, &names),
             Line::Space { job, op } => self.operate(host, &job, &op),
             Line::Flush { job } => self.flush(host, &job),
+            Line::Plan { job, scope, parts } => self.plan(host, &job, scope, parts),
+            Line::Part { job, part } => self.part(host, &job, part),
             Line::Stats { job } => self.tell_stats(&job),
             Line::Publish { job, name } => self.publish(host, &job, name),
             Line::End { job } => self.end(&job),

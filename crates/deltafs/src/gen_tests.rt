@@ -21,7 +21,7 @@ struct Case {
     said: &'static [u8],
 }
 
-const GENERATED: [Case; 3] = [
+const GENERATED: [Case; 5] = [
     Case {
         words: &["gen", "0"],
         failing: 0,
@@ -33,6 +33,18 @@ const GENERATED: [Case; 3] = [
         failing: 0,
         status: Status::Done,
         said: NO_CREATES,
+    },
+    Case {
+        words: &["gen", "3"],
+        failing: 0,
+        status: Status::Done,
+        said: b"lines 14 ok 14 error 0 bytes 138\n",
+    },
+    Case {
+        words: &["gen", "2500"],
+        failing: 0,
+        status: Status::Done,
+        said: b"lines 2527 ok 1527 error 1000 bytes 33073\n",
     },
     // Half of the summary is said.
     Case {

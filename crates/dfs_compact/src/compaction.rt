@@ -133,8 +133,8 @@ impl Compaction {
         ensures before { Told (H.state host.old) (take log.old.len (bytes_of (H.state host.new) log.old.file) ≡ bytes_of (H.state host.old) log.old.file) }
         ensures log_same { (log.new.file ≡ log.old.file) × (log.new.limit ≡ log.old.limit) }
 
-        // `LogFull` exactly where the log refused a piece or the run of all parts would pass 131,072 tables: of the records that are
-        // still to be merged there are more than its other tables have blocks.
+        // `LogFull` where the log refused a piece, and else only where the run of all parts may pass 131,072 tables: of the records
+        // that are still to be merged there are more than its other tables have blocks.
         ensures full { IsErrOf result Fault.LogFull → (0 < log.new.refused) ⊎ (536870912 < 4096 * length (tables_of self.old.merged) + count_all self.old.sources) }
         ensures overfull { (ds : List Delta) → Told (H.state host.old) (Stands (bytes_of (H.state host.old)) log.old.file self.old ds → IsErrOf result Fault.LogFull → (0 < log.new.refused) ⊎ IsOverfull self.old) }
         ensures refuses { 0 < log.new.refused → IsErrOf result Fault.LogFull }
@@ -143,6 +143,8 @@ impl Compaction {
         // A record of the part costs the log at most 1,100 bytes, and a part has at most as many as the sources.
         ensures growth { OnOk result (log.new.len + 1100 * count_of (all_fences (tables_of self.old.merged)) ≤ log.old.len + 1100 * count_of (all_fences (tables_of self.new.merged))) }
         ensures most { IfOk result (λ done. IsWritten done → (run : AnyRun) → slice_get self.new.merged part ≡ Some (Some run) → count_of (all_fences run.tables) ≤ count_all self.old.sources) }
+        // One table at most of a part is not full.
+        ensures tables { OnOk result (4096 * length (tables_of self.new.merged) ≤ 4096 * length (tables_of self.old.merged) + count_all self.old.sources + 4095) }
         // All parts together have at most as many as well, wherever the compaction stands.
         ensures most_of_all { IfOk result (λ done. IsWritten done → (files : Files) (file : ℕ) (ds : List Delta) → Stands files file self.new ds → count_of (all_fences (tables_of self.new.merged)) ≤ count_all self.new.sources) }
         // A record of all parts costs it so much once, those of a part that failed counted.

@@ -51,7 +51,7 @@ pub(crate) fn write_part<H: Host>(
     ensures live { OnOk result (IsFalse log.new.spent) }
     ensures before { Told (H.state host.old) (take log.old.len (bytes_of (H.state host.new) log.old.file) ≡ bytes_of (H.state host.old) log.old.file) }
     ensures few { IfOk result (λ run. length run.tables ≤ tables_left) }
-    // `LogFull` exactly where the log refused a piece or one table too many would be begun, which so many records do not need.
+    // `LogFull` where the log refused a piece, and else only where a table too many may be begun, which so few records do not need.
     ensures full { IsErrOf result Fault.LogFull → (0 < log.new.refused) ⊎ (4096 * tables_left < count_all (map (λ r. r.value) sources.now)) }
     ensures too_many { (ds : List Delta) → Told (H.state host.old) (AreSources (bytes_of (H.state host.old)) (map (λ r. r.value) sources.now) ds → IsErrOf result Fault.LogFull → (0 < log.new.refused) ⊎ (4096 * tables_left < length (merged_part (boundary plan.now.keys plan.now.parts part) (boundary plan.now.keys plan.now.parts (part + 1)) ds))) }
     ensures refused { 0 < log.new.refused → IsErrOf result Fault.LogFull }

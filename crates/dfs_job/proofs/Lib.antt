@@ -6,6 +6,7 @@ pub mod Sealing
 pub mod Keeping
 pub mod Plans
 pub mod Merges
+pub mod Parting
 pub mod Joins
 pub mod Counts
 pub mod Prefixes

@@ -2,7 +2,7 @@
 use Rattle.std.proofs.Common.{◌≡◌, ◌≢◌, ◌∙◌, ◌≤◌, ◌<◌, ◌+◌, ◌*◌, ◌⊎◌, ◌↔◌, inl, inr, ℕ, zero, suc, Bool, true, false, if◌then◌else◌, nat_le, List, [], ◌∷◌, ◌++◌, length, map, take, drop, refl, sym, ap, subst, arith, length-append}
 use Rattle.std.specs.Prelude.{Option, Some, None, Result, Ok, IsSome, IsSomeAnd, IsTrue, IsFalse, get_or, is_some, slice_get, slice_set}
 use Rattle.std.specs.List.{AllByRecursion, AllZip, list_all, sum_by}
-use Rattle.std.proofs.lemmas.Bool.{le-leb, leb-false, leb-true, lt-leb}
+use Rattle.std.proofs.lemmas.Bool.{le-leb, leb-false, leb-true, lt-leb, lt-ltb}
 use Rattle.std.proofs.lemmas.List.{length-map, take-append-drop}
 use Rattle.std.proofs.Math.Nat.{mul-le-mul_right}
 use Rattle.dfs_host.specs.Host.{HostState, Only, Told, bytes_of}
@@ -34,7 +34,7 @@ use Rattle.dfs_job.specs.declared.job.Job.{Job as LiveJob}
 use Rattle.dfs_job.specs.declared.planning.UnderWay.{UnderWay}
 use Rattle.dfs_job.specs.Job.{Job, Plan, basis_covered, covered_changes, joined_as, marked, merged_as, need, part_answer_of, parted_as, with_part}
 use Rattle.dfs_job.specs.Parted.{answer_by}
-use Rattle.dfs_job.specs.Stands.{IsFair, IsInAccount, IsStoredFor, IsTooLong, JobIsFit, JobStands, PlanIsFit, PlanStands, PartsAreStored, PlansAreFit, PlansStand, basis_count, merged_count, own_count, plan_tables, under_way}
+use Rattle.dfs_job.specs.Stands.{IsFair, IsInAccount, IsStoredFor, JobIsFit, JobStands, PlanIsFit, PlanStands, PartsAreStored, PlansAreFit, PlansStand, basis_count, merged_count, merges_too_many, own_count, plan_count, plan_tables, under_way}
 use Rattle.dfs_job.proofs.Apart.{agree_but, basis_apart, basis_still_lies}
 use Rattle.dfs_job.proofs.Keeping.{earlier_apart, too_many_short, within_need}
 use Rattle.dfs_job.proofs.Plans.{covered_counted, covered_sources}
@@ -260,9 +260,9 @@ plan_of host file j u None stand = absurd stand
 plan_of host file j u (Some p) stand = (p, refl)
 
 module _ (old : LiveJob) (u : UnderWay) (fit : JobIsFit old) (under : old.plan ≡ Some u) where
-  pub part_full : {refused : ℕ} → (0 < refused) ⊎ (536870912 < 4096 * length (tables_of u.compaction.merged) + count_all u.compaction.sources) → (0 < refused) ⊎ IsTooLong old
+  pub part_full : {refused : ℕ} → (0 < refused) ⊎ (536870912 < 4096 * length (tables_of u.compaction.merged) + count_all u.compaction.sources) → (0 < refused) ⊎ IsTrue (merges_too_many old)
   part_full (inl some) = inl some
-  part_full (inr many) = inr (omega (arith, many, ap count_all (plan_fit old u fit under).sources, covered_counted u.scope u.covered old, ap plan_tables under))
+  part_full (inr many) = inr (lt-ltb 536870912 (4096 * plan_tables old.plan + plan_count old.plan) (omega (arith, many, ap plan_tables under, ap plan_count under)))
 
   module _ (host : HostState) (j : Job) (stands : JobStands host old j) where
     pub held : (p : Plan) × (j.plan ≡ Some p)

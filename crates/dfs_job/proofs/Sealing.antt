@@ -78,67 +78,8 @@ tables_few file [] each = omega arith
 tables_few file (t ∷ ts) each =
     omega (arith, length-append (table_records file t) (run_records file ts), table_some file t.fences each.0.index.index.some each.0.each, tables_few file ts each.1)
 
--- ---- the records of all runs
-
-all_meet : (fs : List Fence) → filter (meets None None) fs ≡ fs
-all_meet [] = refl
-all_meet (f ∷ fs) = ap (λ l. f ∷ l) (all_meet fs)
-
-whole_run : (file : List ℕ) (ts : List Table) → records_meeting None None file ts ≡ run_records file ts
-whole_run file ts = ap (records_by file) (all_meet (all_fences ts)) ∙ sym (all_records file ts)
-
-pub run_rest : (file : List ℕ) (r : Run) (l : List Record) → IsStored file r (delta l) → records_meeting None None file r.tables ≡ records_of (delta l)
-run_rest file r l stored = whole_run file r.tables ∙ stored.records
-
--- the layer that a run is stored for
-pub record IsLayerAt (file : List ℕ) (r : Run) (ls : List (List Record)) (i : ℕ) : Type 0 where
-  pub layer : List Record
-  pub at : slice_get ls i ≡ Some layer
-  pub stored : IsStored file r (delta layer)
-
-pub layer_at : (file : List ℕ) (rs : List Run) (ls : List (List Record)) (i : ℕ) (r : Run) → AreStored file rs ls → slice_get rs i ≡ Some r → IsLayerAt file r ls i
-layer_at file [] [] i r stored at = absurd cc
-layer_at file [] (l ∷ ls) i r stored at = absurd stored
-layer_at file (s ∷ rs) [] i r stored at = absurd stored
-layer_at file (s ∷ rs) (l ∷ ls) zero r stored at = record { layer = l; at = refl; stored = subst (λ x. IsStored file x (delta l)) (cc at) stored.0 }
-layer_at file (s ∷ rs) (l ∷ ls) (suc i) r stored at = let behind = layer_at file rs ls i r stored.1 at in record { layer = behind.layer; at = behind.at; stored = behind.stored }
-
 take_next : {X : Type 0} (xs : List X) (k : ℕ) (x : X) → slice_get xs k ≡ Some x → take (k + 1) xs ≡ take k xs ++ x ∷ []
 take_next xs k x at = take_more xs k x (slice_get_within xs k x at) ∙ ap (λ y. take k xs ++ y ∷ []) (get_or_from_slice_get xs k x x at)
-
-map_more : {A B : Type 0} (f : A → B) (xs : List A) (x : A) → map f (xs ++ x ∷ []) ≡ map f xs ++ f x ∷ []
-map_more f [] x = refl
-map_more f (y ∷ ys) x = ap (λ l. f y ∷ l) (map_more f ys x)
-
--- one source more, of the next run
-pub rests_next : {S : Type 0} (rest : S → List Record) (file : List ℕ) (rs : List Run) (ls : List (List Record)) (i : ℕ) (r : Run) (old new : List S) (s : S) → AreStored file rs ls → slice_get rs i ≡ Some r
-    → new ≡ old ++ s ∷ [] → map rest old ≡ map (λ (l : List Record). records_of (delta l)) (take i ls) → (AllByRecursion (IsTableOf file) r.tables → rest s ≡ records_meeting None None file r.tables)
-    → map rest new ≡ map (λ (l : List Record). records_of (delta l)) (take (i + 1) ls)
-rests_next rest file rs ls i r old new s stored at is before here =
-    let of = layer_at file rs ls i r stored at in
-    ap (map rest) is
-    ∙ map_more rest old s
-    ∙ (λ k. before k ++ (here of.stored.each ∙ run_rest file r of.layer of.stored) k ∷ [])
-    ∙ sym (ap (map (λ (l : List Record). records_of (delta l))) (take_next ls i of.layer of.at) ∙ map_more (λ (l : List Record). records_of (delta l)) (take i ls) of.layer)
-
-pub few_next : {S : Type 0} (rest : S → List Record) (rs : List Run) (i : ℕ) (r : Run) (old new : List S) (s : S) → slice_get rs i ≡ Some r → new ≡ old ++ s ∷ []
-    → sum_by (λ s. length (rest s)) old ≤ sum_by run_count (take i rs) → length (rest s) ≤ run_count r → sum_by (λ s. length (rest s)) new ≤ sum_by run_count (take (i + 1) rs)
-few_next rest rs i r old new s at is before here =
-    omega (
-      arith,
-      ap (λ l. sum_by (λ s. length (rest s)) l) is,
-      sum_by-append (λ s. length (rest s)) old (s ∷ []),
-      sum_by-cons (λ s. length (rest s)) s [],
-      ap (λ l. sum_by run_count l) (take_next rs i r at),
-      sum_by-append run_count (take i rs) (r ∷ []),
-      sum_by-cons run_count r [],
-      before,
-      here,
-    )
-
-pub rests_end : {S : Type 0} (rest : S → List Record) (file : List ℕ) (rs : List Run) (ls : List (List Record)) (i : ℕ) (ss : List S) → AreStored file rs ls → length rs ≤ i
-    → map rest ss ≡ map (λ (l : List Record). records_of (delta l)) (take i ls) → map rest ss ≡ map (λ (l : List Record). records_of (delta l)) ls
-rests_end rest file rs ls i ss stored all rests = rests ∙ ap (map (λ (l : List Record). records_of (delta l))) (take_all i ls (omega (arith, all, stored_lengths file rs ls stored)))
 
 some_is : {X : Type 0} (o : Option X) (P : X → Type 0) → IsSomeAnd o P → (x : X) × (o ≡ Some x) × P x
 some_is None P is = absurd is
@@ -155,10 +96,6 @@ all_at P [] i x all at = absurd cc
 all_at P (y ∷ ys) zero x all at = subst P (cc at) all.0
 all_at P (y ∷ ys) (suc i) x all at = all_at P ys i x all.1 at
 
-pub loaded : {S : Type 0} (ss : List S) → AllByRecursion (λ (s : S). ◌≡◌ {A = ℕ} 0 0) ss
-loaded [] = tt
-loaded (s ∷ ss) = (refl, loaded ss)
-
 pub ok_then : {T E : Type 0} (result : Result T E) (P Q : T → Type 0) → IfOk result P → ((x : T) → P x → Q x) → IfOk result Q
 ok_then (Ok x) P Q p f = f x p
 ok_then (Err e) P Q p f = tt
@@ -166,29 +103,6 @@ ok_then (Err e) P Q p f = tt
 -- the sum up to a run, and that run's count
 pub count_next : (rs : List Run) (i : ℕ) (r : Run) → slice_get rs i ≡ Some r → sum_by run_count (take (i + 1) rs) ≡ sum_by run_count (take i rs) + run_count r
 count_next rs i r at = omega (arith, ap (λ l. sum_by run_count l) (take_next rs i r at), sum_by-append run_count (take i rs) (r ∷ []), sum_by-cons run_count r [])
-
-pub count_most : (rs : List Run) (i : ℕ) → sum_by run_count (take i rs) ≤ sum_by run_count rs
-count_most rs i = sum_by-take-le run_count rs i
-
--- ---- merged
-
-pub merged_all : {S : Type 0} (rest : S → List Record) (ss : List S) (ls : List (List Record)) → map rest ss ≡ map (λ (l : List Record). records_of (delta l)) ls
-    → records_of (delta (flat_map (λ (rs : List Record). rs) (map rest ss))) ≡ records_of (delta (flat_map (λ (rs : List Record). rs) ls))
-merged_all rest ss ls rests =
-    ap (λ x. records_of (delta (flat_map (λ (rs : List Record). rs) x))) rests
-    ∙ ap (λ x. records_of (delta x)) (flat_map-map (λ (rs : List Record). rs) (λ (l : List Record). records_of (delta l)) ls)
-    ∙ ap records_of (deltas_joined ls)
-
-pub merged_few : {S : Type 0} (rest : S → List Record) (ss : List S) → length (records_of (delta (flat_map (λ (rs : List Record). rs) (map rest ss)))) ≤ sum_by (λ s. length (rest s)) ss
-merged_few rest ss =
-    let all = flat_map (λ (rs : List Record). rs) (map rest ss) in
-    omega (
-      arith,
-      records_few (delta all),
-      delta_few all,
-      ap length (flat_map-map (λ (rs : List Record). rs) rest ss),
-      length-flat_map rest ss,
-    )
 
 -- ---- what is sealed
 

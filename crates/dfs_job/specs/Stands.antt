@@ -1,5 +1,5 @@
 -- What a job in memory and the files of a host stand for, and what is so of every job.
-use Rattle.std.specs.Prelude.{◌≡◌, ◌≤◌, ◌<◌, ◌+◌, ◌*◌, ◌++◌, ℕ, List, [], length, map, slice_get, take, is_some, Option, Some, None, IsSomeAnd, IsFalse}
+use Rattle.std.specs.Prelude.{◌≡◌, ◌≤◌, ◌<◌, ◌+◌, ◌*◌, ◌++◌, ℕ, Bool, nat_lt, List, [], length, map, slice_get, take, is_some, Option, Some, None, IsSomeAnd, IsFalse}
 use Rattle.std.specs.List.{AllByRecursion, AllZip, sum_by}
 use Rattle.dfs_host.specs.Host.{HostState, Told, bytes_of}
 use Rattle.dfs_record.specs.Delta.{Delta, delta}
@@ -12,7 +12,7 @@ use Rattle.dfs_table.specs.Writer.{AreIn}
 use Rattle.dfs_table.specs.declared.run.Run.{Run}
 use Rattle.dfs_plan.specs.Parts.{boundary}
 use Rattle.dfs_compact.specs.Compaction.{AreMerged, CompactionState}
-use Rattle.dfs_compact.specs.Parts.{merged_part, tables_of}
+use Rattle.dfs_compact.specs.Parts.{count_all, merged_part, tables_of}
 use Rattle.dfs_change.specs.declared.change.Change.{Change}
 use Rattle.dfs_change.specs.Identities.{AreFit as AreOfJob, FitsJob}
 use Rattle.dfs_ops.specs.Op.{AreIds}
@@ -127,13 +127,23 @@ abbrev pub plan_tables : Option UnderWay → ℕ
 plan_tables None = 0
 plan_tables (Some u) = length (tables_of u.compaction.merged)
 
--- how many blocks the runs of the job may need, where each has one record alone and the tables of the merged parts are written
-abbrev pub most_blocks : LiveJob → ℕ
-most_blocks job = basis_count job + own_count job + job.layers.buffer.made + 4096 * plan_tables job.plan
+-- how many records the sources of the plan under way have
+abbrev pub plan_count : Option UnderWay → ℕ
+plan_count None = 0
+plan_count (Some u) = count_all u.compaction.sources
 
--- the 131,072 tables of a run may not have so many
-abbrev pub IsTooLong : LiveJob → Type 0
-IsTooLong job = 536870912 < most_blocks job
+-- So many records, merged in so many parts, may need more than the 131,072 tables of a run, which have 536,870,912 blocks: a part has
+-- at most all records and each block one at least, and of the tables of a part one at most is not full.
+abbrev pub may_pass : ℕ → ℕ → Bool
+may_pass records parts = nat_lt 536870912 ((parts + 1) * (records + 4095))
+
+-- the run that the job publishes may need too many tables
+abbrev pub publishes_too_many : LiveJob → Bool
+publishes_too_many job = may_pass (own_count job + job.layers.buffer.made) job.settings.parts
+
+-- the run of its plan may need too many, with those of the merged parts, which are written
+abbrev pub merges_too_many : LiveJob → Bool
+merges_too_many job = nat_lt 536870912 (4096 * plan_tables job.plan + plan_count job.plan)
 
 -- all parts of the plan were merged
 abbrev pub IsWholePlan : Option UnderWay → Type 0

@@ -34,7 +34,7 @@ impl Job {
     ghost use Rattle.dfs_host.specs.Host.{HostState, Told, Only};
     ghost use Rattle.dfs_view.specs.Layers.{Stand};
     ghost use Rattle.dfs_job.specs.Job.{Job as PlainJob, after_part, after_plan, joined_as, merged_as, need, part_answer, plan_answer, with_plan};
-    ghost use Rattle.dfs_job.specs.Stands.{IsTooLong, IsWholePlan, JobIsFit, JobIsSound, JobStands};
+    ghost use Rattle.dfs_job.specs.Stands.{IsWholePlan, JobIsFit, JobIsSound, JobStands, merges_too_many};
 
     /// Begins a plan over the closed layers, with scope all over the selected change sets as well. It closes the open layer. Without
     /// a number of parts it has as many as the settings say. After a fault the job is spent.
@@ -124,8 +124,8 @@ impl Job {
         ensures settings { self.new.settings ≡ self.old.settings }
         // With the last part of a plan over the basis that becomes empty.
         ensures basis { (self.new.layers.basis.items ≡ self.old.layers.basis.items) ⊎ (self.new.layers.basis.items ≡ []) }
-        // `LogFull` exactly where the log refused a piece or one table too many would be begun.
-        ensures full { IsErrOf result Fault.LogFull → (0 < self.new.layers.log.refused) ⊎ IsTooLong self.old }
+        // `LogFull` where the log refused a piece, and else only where the run of the plan may need too many tables.
+        ensures full { IsErrOf result Fault.LogFull → (0 < self.new.layers.log.refused) ⊎ IsTrue (merges_too_many self.old) }
         ensures refuses { 0 < self.new.layers.log.refused → IsErrOf result Fault.LogFull }
         ensures short { (j : PlainJob) → Told (H.state host.old) (JobStands (H.state host.old) self.old j → IsErrOf result Fault.LogFull → j.settings.log_bytes < need j) }
         ensures only { Only self.old.ids.job (H.state host.old) (H.state host.new) }
@@ -158,7 +158,7 @@ impl Job {
         ensures number { self.new.ids ≡ self.old.ids }
         ensures settings { self.new.settings ≡ self.old.settings }
         ensures basis { self.new.layers.basis.items ≡ self.old.layers.basis.items }
-        ensures full { IsErrOf result Fault.LogFull → (0 < self.new.layers.log.refused) ⊎ IsTooLong self.old }
+        ensures full { IsErrOf result Fault.LogFull → (0 < self.new.layers.log.refused) ⊎ IsTrue (merges_too_many self.old) }
         ensures refuses { 0 < self.new.layers.log.refused → IsErrOf result Fault.LogFull }
         ensures short { (j : PlainJob) → Told (H.state host.old) (JobStands (H.state host.old) self.old j → IsErrOf result Fault.LogFull → j.settings.log_bytes < need j) }
         ensures only { Only self.old.ids.job (H.state host.old) (H.state host.new) }
@@ -288,8 +288,8 @@ fn add_basis(sources: &mut Vec<Rc<Run>>, basis: &[Rc<Change>]) -> Result<(), NoM
     Ok(())
 }
 
-// Adds the runs.
-fn add_runs(sources: &mut Vec<Rc<Run>>, runs: &[Rc<Run>]) -> Result<(), NoMemory>
+/// Adds the runs, which are shared.
+pub(crate) fn add_runs(sources: &mut Vec<Rc<Run>>, runs: &[Rc<Run>]) -> Result<(), NoMemory>
     ensures { OnOk result (map (λ r. r.value) sources.new.items ≡ map (λ r. r.value) sources.old.items ++ map (λ r. r.value) runs.now) }
 {
     for run in runs {

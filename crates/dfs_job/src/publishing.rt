@@ -1,12 +1,12 @@
 //! What a job publishes.
 
-ghost use Rattle.std.specs.Prelude.{◌≡◌, ◌≤◌, ◌<◌, ◌+◌, ◌*◌, ◌⊎◌, ◌↔◌, ℕ, List, IsFalse, IfOk, OnOk, IsErrOf, IsSomeAnd, Some, flat_map, map, slice_get, length};
+ghost use Rattle.std.specs.Prelude.{◌≡◌, ◌≤◌, ◌<◌, ◌+◌, ◌*◌, ◌⊎◌, ◌↔◌, ℕ, List, IsFalse, IsTrue, IfOk, OnOk, IsErrOf, IsSomeAnd, Some, None, flat_map, map, replicate, slice_get, length};
 ghost use Rattle.std.specs.List.{AllByRecursion, sum_by};
 ghost use Rattle.dfs_host.specs.Disk.{IsSettled};
 ghost use Rattle.dfs_host.specs.Fault.{HasFaultCause};
 ghost use Rattle.dfs_host.specs.Host.{Told, Only, bytes_of};
 ghost use Rattle.dfs_record.specs.declared.Record.{Record as AnyRecord};
-ghost use Rattle.dfs_record.specs.Delta.{Delta, delta, records_of};
+ghost use Rattle.dfs_record.specs.Delta.{Delta, delta};
 ghost use Rattle.dfs_record.specs.KeyMap.{len};
 ghost use Rattle.dfs_log.specs.Logs.{LogStands};
 ghost use Rattle.dfs_change.specs.Meant.{log_meaning};
@@ -14,21 +14,24 @@ ghost use Rattle.dfs_change.specs.Sealing.{entry_of};
 ghost use Rattle.dfs_view.specs.Layers.{AreStored, own_runs, run_count};
 ghost use Rattle.dfs_view.specs.View.{IsOwnRun, closed_count};
 ghost use Rattle.dfs_table.specs.Stored.{IsStored};
+ghost use Rattle.dfs_table.specs.Writer.{AreIn};
+ghost use Rattle.dfs_compact.specs.Compaction.{AreMerged, IsOverfull, Stands as CompactionStands};
+ghost use Rattle.dfs_compact.specs.Parts.{AreSources, count_all, tables_of};
+ghost use Rattle.dfs_record.specs.Records.{Files};
 ghost use Rattle.dfs_job.specs.Sealed.{AreSealable, IsRunOfJob, IsSealable};
+ghost use Rattle.dfs_job.specs.Stands.{may_pass};
 
 use crate::Job;
+use crate::planning::add_runs;
 use dfs_change::{ChangeWriter, Sealed};
+use dfs_compact::Compaction;
 use dfs_host::{Fault, Host};
 use dfs_log::LogWriter;
-use dfs_merge::Merge;
-use dfs_record::{NoMemory, Records};
-use dfs_table::{Run, RunRecords, write_tables};
+use dfs_record::NoMemory;
+use dfs_table::Run;
 use dfs_view::{Layers, flush};
 use std::alloc::Global;
 use std::rc::Rc;
-
-/// The most tables of a run.
-const MOST_TABLES: u32 = 131_072;
 
 impl Job {
     ghost use Rattle.std.specs.Prelude.{◌≡◌, ◌<◌, ◌⊎◌, ℕ, List, IsTrue, IfOk, OnOk, IsErrOf, Some};
@@ -39,10 +42,11 @@ impl Job {
     ghost use Rattle.dfs_change.specs.Meant.{log_meaning};
     ghost use Rattle.dfs_change.specs.Sealing.{entry_of};
     ghost use Rattle.dfs_job.specs.Job.{Job as PlainJob, need, own_changes};
-    ghost use Rattle.dfs_job.specs.Stands.{IsTooLong, JobIsSound, JobStands};
+    ghost use Rattle.dfs_job.specs.Stands.{JobIsSound, JobStands, publishes_too_many};
 
-    /// Seals all layers of the job as one run in its log: the only one as it stands, several ones merged, none as a run without a
-    /// table. What it selected is no part of that. The job is over then, so that it is spent whatever the answer.
+    /// Seals all layers of the job as one run in its log: the only one as it stands, several ones merged in as many parts as the
+    /// settings say, none as a run without a table. What it selected is no part of that, and a plan under way is given up. The job is
+    /// over then, so that it is spent whatever the answer.
     pub fn publish_tables<H: Host>(&mut self, alloc: Global, host: &mut H) -> Result<Sealed, Fault>
         requires sound { JobIsSound (H.state host.old) self.old }
 
@@ -54,8 +58,8 @@ impl Job {
         ensures number { self.new.ids ≡ self.old.ids }
         ensures settings { self.new.settings ≡ self.old.settings }
         ensures basis { self.new.layers.basis.items ≡ self.old.layers.basis.items }
-        // `LogFull` exactly where the log refused a piece or one table too many would be begun.
-        ensures full { IsErrOf result Fault.LogFull → (0 < self.new.layers.log.refused) ⊎ IsTooLong self.old }
+        // `LogFull` where the log refused a piece, and else only where the merged run may need too many tables.
+        ensures full { IsErrOf result Fault.LogFull → (0 < self.new.layers.log.refused) ⊎ IsTrue (publishes_too_many self.old) }
         ensures refuses { 0 < self.new.layers.log.refused → IsErrOf result Fault.LogFull }
         ensures short { (j : PlainJob) → Told (H.state host.old) (JobStands (H.state host.old) self.old j → IsErrOf result Fault.LogFull → j.settings.log_bytes < need j) }
         ensures only { Only self.old.ids.job (H.state host.old) (H.state host.new) }
@@ -65,12 +69,19 @@ impl Job {
     {
         self.spent = true;
         flush(alloc, host, &mut self.layers)?;
-        seal(alloc, host, &mut self.layers)
+        seal(alloc, host, &mut self.layers, self.settings.parts)
     }
 }
 
-// Seals the closed layers as one run.
-fn seal<H: Host>(alloc: Global, host: &mut H, layers: &mut Layers) -> Result<Sealed, Fault>
+// Seals the closed layers as one run, which several are merged to in so many parts.
+fn seal<H: Host>(
+    alloc: Global,
+    host: &mut H,
+    layers: &mut Layers,
+    parts: u16,
+) -> Result<Sealed, Fault>
+    requires some { 1 ≤ parts }
+    requires most { parts ≤ 256 }
     requires live { IsFalse layers.old.log.spent }
     requires stands { Told (H.state host.old) (LogStands (H.state host.old) layers.old.log) }
     requires own { AllByRecursion (IsOwnRun layers.old.log.file) (own_runs layers.old) }
@@ -81,7 +92,8 @@ fn seal<H: Host>(alloc: Global, host: &mut H, layers: &mut Layers) -> Result<Sea
     ensures count { (ls : List (List AnyRecord)) → Told (H.state host.old) (IsSealable (H.state host.old) layers.old.log.file (own_runs layers.old) ls → IfOk result (λ sealed. sealed.count ≡ len (delta (flat_map (λ rs. rs) ls)))) }
     ensures settled { Told (H.state host.old) (OnOk result (IsSettled ((H.state host.new).disk.files layers.old.log.file))) }
     ensures same { layers.new.basis.items ≡ layers.old.basis.items }
-    ensures full { IsErrOf result Fault.LogFull → (0 < layers.new.log.refused) ⊎ (536870912 < closed_count layers.old) }
+    ensures full { IsErrOf result Fault.LogFull → (0 < layers.new.log.refused) ⊎ IsTrue (may_pass (closed_count layers.old) parts) }
+    ensures overfull { Told (H.state host.old) (IsErrOf result Fault.LogFull → (0 < layers.new.log.refused) ⊎ (536870912 < closed_count layers.old + 4095 * parts)) }
     ensures refuses { 0 < layers.new.log.refused → IsErrOf result Fault.LogFull }
     ensures past { 0 < layers.new.log.refused → layers.old.log.limit < layers.new.log.len + layers.new.log.refused }
     // A merged record costs at most 1,100 bytes, a table 16 in the manifest.
@@ -93,7 +105,7 @@ fn seal<H: Host>(alloc: Global, host: &mut H, layers: &mut Layers) -> Result<Sea
     if layers.runs.len() == 1 {
         return finish(alloc, host, &mut layers.log, run_at(&layers.runs, 0));
     }
-    let run = merge_runs(alloc, host, &mut layers.log, &layers.runs)?;
+    let run = merge_runs(alloc, host, &mut layers.log, &layers.runs, parts)?;
     finish(alloc, host, &mut layers.log, &run)
 }
 
@@ -123,26 +135,34 @@ fn finish<H: Host>(
     ChangeWriter::finish(alloc, host, log, run)
 }
 
-// Writes the records of all runs to the log as one run, each key once with its last value.
+// Merges all runs to one in the log, in so many parts.
 fn merge_runs<H: Host>(
     alloc: Global,
     host: &mut H,
     log: &mut LogWriter,
     runs: &[Rc<Run>],
+    parts: u16,
 ) -> Result<Run, Fault>
+    requires some { 1 ≤ parts }
+    requires most { parts ≤ 256 }
     requires live { IsFalse log.old.spent }
     requires stands { Told (H.state host.old) (LogStands (H.state host.old) log.old) }
+    requires own { AllByRecursion (IsOwnRun log.old.file) (map (λ r. r.value) runs.now) }
 
     ensures stored { (ls : List (List AnyRecord)) → Told (H.state host.old) (AreStored (bytes_of (H.state host.old) log.old.file) (map (λ r. r.value) runs.now) ls
         → IfOk result (λ run. IsStored (bytes_of (H.state host.new) log.old.file) run (delta (flat_map (λ rs. rs) ls)))) }
     ensures own { IfOk result (IsOwnRun log.old.file) }
-    ensures count { IfOk result (λ run. run_count run ≤ sum_by run_count (map (λ r. r.value) runs.now)) }
+    ensures count { (ls : List (List AnyRecord)) → Told (H.state host.old) (AreStored (bytes_of (H.state host.old) log.old.file) (map (λ r. r.value) runs.now) ls
+        → IfOk result (λ run. run_count run ≤ sum_by run_count (map (λ r. r.value) runs.now))) }
     ensures log { Told (H.state host.old) (OnOk result (LogStands (H.state host.new) log.new)) }
     ensures live { OnOk result (IsFalse log.new.spent) }
-    ensures full { IsErrOf result Fault.LogFull → (0 < log.new.refused) ⊎ (536870912 < sum_by run_count (map (λ r. r.value) runs.now)) }
+    ensures full { IsErrOf result Fault.LogFull → (0 < log.new.refused) ⊎ IsTrue (may_pass (sum_by run_count (map (λ r. r.value) runs.now)) parts) }
+    ensures overfull { (ls : List (List AnyRecord)) → Told (H.state host.old) (AreStored (bytes_of (H.state host.old) log.old.file) (map (λ r. r.value) runs.now) ls
+        → IsErrOf result Fault.LogFull → (0 < log.new.refused) ⊎ (536870912 < sum_by run_count (map (λ r. r.value) runs.now) + 4095 * parts)) }
     ensures refuses { 0 < log.new.refused → IsErrOf result Fault.LogFull }
     ensures over { 0 < log.new.refused → log.new.limit < log.new.len + log.new.refused }
-    ensures growth { log.new.len + log.new.refused ≤ log.old.len + 1100 * sum_by run_count (map (λ r. r.value) runs.now) }
+    ensures growth { (ls : List (List AnyRecord)) → Told (H.state host.old) (AreStored (bytes_of (H.state host.old) log.old.file) (map (λ r. r.value) runs.now) ls
+        → log.new.len + log.new.refused ≤ log.old.len + 1100 * sum_by run_count (map (λ r. r.value) runs.now)) }
     ensures same { (log.new.file ≡ log.old.file) × (log.new.limit ≡ log.old.limit) }
     ensures never_changed { (file at : ℕ) → IsErrOf result (Fault.Changed file at) → ⊥ }
     ensures only { Only log.old.file (H.state host.old) (H.state host.new) }
@@ -151,36 +171,65 @@ fn merge_runs<H: Host>(
 {
     // Read here, since a log that is not spent refused nothing.
     let _ = log.len();
-    let Ok(merge) = merged(alloc, runs) else {
+    let Ok(mut compaction) = compaction_of(alloc, runs, parts) else {
         return Err(Fault::NoMemory);
     };
-    write_tables(alloc, host, log, merge, MOST_TABLES)
+    merge_parts(alloc, host, log, &mut compaction, parts)?;
+    Ok(compaction.take())
 }
 
-// The records of all runs, each key once with its last value.
-fn merged<'a>(alloc: Global, runs: &'a [Rc<Run>]) -> Result<Merge<RunRecords<'a>>, NoMemory>
-    ensures rest { (file : List ℕ) (ls : List (List AnyRecord)) → AreStored file (map (λ r. r.value) runs.entry.now) ls → IfOk result (λ merge. ⟦<Merge<RunRecords<'a>> as Records>⟧.rest merge ≡ records_of (delta (flat_map (λ rs. rs) ls))) }
-    ensures few { IfOk result (λ merge. length (⟦<Merge<RunRecords<'a>> as Records>⟧.rest merge) ≤ sum_by run_count (map (λ r. r.value) runs.entry.now)) }
-    ensures unread { IfOk result (λ merge. ⟦<Merge<RunRecords<'a>> as Records>⟧.unread merge ≡ 0) }
+// The compaction of the runs, of which no part is merged.
+fn compaction_of(alloc: Global, runs: &[Rc<Run>], parts: u16) -> Result<Compaction, NoMemory>
+    requires some { 1 ≤ parts }
+    requires most { parts ≤ 256 }
+    ensures sources { IfOk result (λ c. c.sources ≡ map (λ r. r.value) runs.now) }
+    ensures parts { IfOk result (λ c. c.parts ≡ parts) }
+    ensures none { IfOk result (λ c. c.merged ≡ replicate parts None) }
+    ensures live { IfOk result (λ c. IsFalse c.spent) }
+    ensures stands { (files : Files) (file : ℕ) (ds : List Delta) → AreSources files (map (λ r. r.value) runs.now) ds → IfOk result (λ c. CompactionStands files file c ds) }
 {
-    let sources = whole(alloc, runs)?;
-    Merge::new(alloc, sources)
+    let mut sources = Vec::new(alloc);
+    add_runs(&mut sources, runs)?;
+    Compaction::begin(alloc, sources, parts)
 }
 
-// The records of each run.
-fn whole<'a>(alloc: Global, runs: &'a [Rc<Run>]) -> Result<Vec<RunRecords<'a>>, NoMemory>
-    ensures rests { (file : List ℕ) (ls : List (List AnyRecord)) → AreStored file (map (λ r. r.value) runs.entry.now) ls → IfOk result (λ sources. map ⟦<RunRecords<'a> as Records>⟧.rest sources.items ≡ map (λ rs. records_of (delta rs)) ls) }
-    ensures few { IfOk result (λ sources. sum_by (λ s. length (⟦<RunRecords<'a> as Records>⟧.rest s)) sources.items ≤ sum_by run_count (map (λ r. r.value) runs.entry.now)) }
-    ensures loaded { IfOk result (λ sources. AllByRecursion (λ s. ⟦<RunRecords<'a> as Records>⟧.unread s ≡ 0) sources.items) }
+// Merges all parts, one after the other.
+fn merge_parts<H: Host>(
+    alloc: Global,
+    host: &mut H,
+    log: &mut LogWriter,
+    compaction: &mut Compaction,
+    parts: u16,
+) -> Result<(), Fault>
+    requires none { compaction.old.merged ≡ replicate parts None }
+    requires parts { compaction.old.parts ≡ parts }
+    requires live { IsFalse compaction.old.spent }
+    requires log_live { IsFalse log.old.spent }
+    requires stands { Told (H.state host.old) (LogStands (H.state host.old) log.old) }
+
+    ensures merged { OnOk result (AreMerged compaction.new) }
+    ensures sources { compaction.new.sources ≡ compaction.old.sources }
+    ensures inside { OnOk result (AreIn log.old.file (tables_of compaction.new.merged)) }
+    ensures kept { (ds : List Delta) → Told (H.state host.old) (CompactionStands (bytes_of (H.state host.old)) log.old.file compaction.old ds → OnOk result (CompactionStands (bytes_of (H.state host.new)) log.old.file compaction.new ds)) }
+    ensures live { OnOk result (IsFalse compaction.new.spent × IsFalse log.new.spent) }
+    ensures log { Told (H.state host.old) (OnOk result (LogStands (H.state host.new) log.new)) }
+    ensures full { IsErrOf result Fault.LogFull → (0 < log.new.refused) ⊎ IsTrue (may_pass (count_all compaction.old.sources) parts) }
+    ensures overfull { (ds : List Delta) → Told (H.state host.old) (CompactionStands (bytes_of (H.state host.old)) log.old.file compaction.old ds → IsErrOf result Fault.LogFull → (0 < log.new.refused) ⊎ IsOverfull compaction.old) }
+    ensures refuses { 0 < log.new.refused → IsErrOf result Fault.LogFull }
+    ensures over { 0 < log.new.refused → log.new.limit < log.new.len + log.new.refused }
+    ensures growth { (ds : List Delta) → Told (H.state host.old) (CompactionStands (bytes_of (H.state host.old)) log.old.file compaction.old ds → log.new.len + log.new.refused ≤ log.old.len + 1100 * count_all compaction.old.sources) }
+    ensures same { (log.new.file ≡ log.old.file) × (log.new.limit ≡ log.old.limit) }
+    ensures never_changed { (file at : ℕ) → IsErrOf result (Fault.Changed file at) → ⊥ }
+    ensures only { Only log.old.file (H.state host.old) (H.state host.new) }
+    ensures cause { HasFaultCause (H.state host.old) (H.state host.new) result }
+    ensures reads { (H.state host.new).reads ≡ (H.state host.old).reads }
 {
-    let mut sources = Vec::with_capacity(alloc, runs.len())?;
-    for index in 0..runs.len() {
-        let records = RunRecords::new(alloc, run_at(runs, index), None, None)?;
-        let Ok(()) = sources.push(records) else {
-            return Err(NoMemory);
-        };
+    // Read here, since a log that is not spent refused nothing.
+    let _ = log.len();
+    for part in 0..parts {
+        compaction.part(alloc, host, log, part as u64)?;
     }
-    Ok(sources)
+    Ok(())
 }
 
 /// The run with this number.

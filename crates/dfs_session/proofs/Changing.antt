@@ -17,12 +17,15 @@ use Rattle.dfs_registry.specs.Body.{lists_job}
 use Rattle.dfs_registry.specs.Standing.{RegistryStands}
 use Rattle.dfs_reply.specs.declared.Reply.TheVariants.{Ok as OkReply}
 use Rattle.dfs_reply.specs.Text.{text}
+use Rattle.dfs_path.specs.declared.Scope.{Scope}
 use Rattle.dfs_script.specs.Scopes.{is_parts}
 use Rattle.dfs_script.specs.declared.JobWord.{JobWord}
 use Rattle.dfs_view.specs.Layers.{selected}
 use Rattle.dfs_job.specs.declared.job.Job.{Job as LiveJob}
-use Rattle.dfs_job.specs.Job.{Job}
-use Rattle.dfs_job.specs.Stands.{IsTooLong, JobIsSound, JobStands, StandsForOne, most_blocks}
+use Rattle.dfs_job.specs.declared.answers.Planned.{Planned}
+use Rattle.dfs_job.specs.declared.answers.Planned.TheVariants.{Made, Busy, Full}
+use Rattle.dfs_job.specs.Job.{Job, after_plan, need, plan_answer, planned_as}
+use Rattle.dfs_job.specs.Stands.{JobIsSound, JobStands, StandsForOne}
 use Rattle.dfs_session.specs.declared.keeping.Kept.{Kept}
 use Rattle.dfs_session.specs.declared.session.Session.{Session as LiveSession}
 use Rattle.dfs_session.specs.Files.{value_on}
@@ -31,12 +34,12 @@ use Rattle.dfs_session.specs.Kept.{IsOwn}
 use Rattle.dfs_session.specs.Session.{Registry, Session, Step, live_job, of_live, ends, word_cmp}
 use Rattle.dfs_session.specs.Sound.{AreApart, IsEntry, IsListed, IsLive, IsSound, NoneHas, PlainOf, jobs_of, listed_in, live_in, number_of}
 use Rattle.dfs_session.specs.Stands.{EntryStands, LeavesValue, Stands}
-use Rattle.dfs_session.specs.Worked.{AreNamed, IsFullWhere, IsShort, IsWorked, Work, has_refused, has_too_long, plain}
+use Rattle.dfs_session.specs.Worked.{AreNamed, IsFullWhere, IsShort, IsWorked, Work, has_refused, job_is, plain, with_plan_made}
 use Rattle.dfs_session.proofs.Begun.{HasEnded, each_ended, kept_still, still_none}
 use Rattle.dfs_session.proofs.Faults.{unrefused, each_unrefused, sound_refused, not_true}
 use Rattle.dfs_session.proofs.Handed.{fault_or, handed_cause}
 use Rattle.dfs_session.proofs.Images.{own_images, read_images}
-use Rattle.dfs_session.proofs.Jobs.{Live, FoundBoth, all_set, all_found, all_remove, any_set, any_there, apart_set, apart_remove, both_found, none_unremoved, none_unset, removed_apart, zip_remove}
+use Rattle.dfs_session.proofs.Jobs.{Live, FoundBoth, all_set, all_found, all_remove, any_set, apart_set, apart_remove, both_found, none_unremoved, none_unset, removed_apart, zip_remove}
 use Rattle.dfs_session.proofs.Kept.{Keeps, bytes_stay, keep_listed, only_keeps, plains_changed, registry_kept, registry_value, settled_stay, unlisted_apart, zip_changed}
 use Rattle.dfs_session.proofs.Values.{same_publications, stands_value}
 use Rattle.dfs_session.proofs.Working.{OnlyMemory, ended_names, on_ok, same_names, worked_by_memory}
@@ -52,6 +55,15 @@ parts_within (Some n) within = (leb-true 1 n (both (nat_le 1 n) (nat_le n 256) w
     both : (a b : Bool) → (a && b) ≡ true → (a ≡ true) × (b ≡ true)
     both true b e = (refl, e)
     both false b e = absurd (true≢false (sym e))
+
+-- the job keeps its settings with a plan more
+pub plan_short : (j : Job) (scope : Scope) (parts : Option ℕ) → j.settings.log_bytes < need (after_plan j scope parts) → IsShort (with_plan_made scope parts (Some j))
+plan_short j scope parts = by (plan_answer j)
+  where
+    by : (a : Planned) → j.settings.log_bytes < need (planned_as a j scope parts) → IsShort (Some (planned_as a j scope parts))
+    by Made short = short
+    by Busy short = short
+    by Full short = short
 
 -- whether there is a job
 pub none_of : (o : Option LiveJob) → is_some o ≡ false → o ≡ None
@@ -88,6 +100,11 @@ no_job host session s word stands is =
     by (Some j) both = absurd both
 
 -- ---- the log of a live job, while its file alone changes
+
+-- what is so of the job, where it is found under its word
+pub so_of_job : (session : LiveSession) (word : JobWord) (live : LiveJob) (test : LiveJob → Bool) {A : Type 0} → live_in session word ≡ Some live → A ⊎ IsTrue (test live) → A ⊎ IsTrue (job_is test (live_in session word))
+so_of_job session word live test found (inl a) = inl a
+so_of_job session word live test found (inr holds) = inr (subst (λ (o : Option LiveJob). IsTrue (job_is test o)) (sym found) holds)
 
 module _ (before after : HostState) (session : LiveSession) (word : JobWord) (live : LiveJob) (sound : IsSound before session) (found : live_in session word ≡ Some live) where
   abbrev test : JobWord → Bool
@@ -134,12 +151,9 @@ module _ (before after : HostState) (session : LiveSession) (word : JobWord) (li
       now_refused : 0 < new.layers.log.refused → has_refused changed ≡ true
       now_refused some = ap (λ (es : Live). list_any (λ e. nat_lt 0 e.1.layers.log.refused) es) set ∙ any_set test (jobs_of session) live new found (lt-ltb 0 new.layers.log.refused some)
 
-      too_long : IsTooLong live → has_too_long session ≡ true
-      too_long many = any_there (λ x. nat_lt 536870912 (most_blocks x)) test (jobs_of session) live found (lt-ltb 536870912 (most_blocks live) many)
-
-      -- `LogFull` exactly where the job's log refused a piece or a run of it would have a table too many
-      pub full_with : {T : Type 0} (result : Result T Fault) → (IsErrOf result LogFull → (0 < new.layers.log.refused) ⊎ IsTooLong live) → (0 < new.layers.log.refused → IsErrOf result LogFull) → IsFullWhere result session changed
-      full_with result only refused = record { only = λ is. elim (only is) [ inl holds ↦ inl (now_refused holds) | inr many ↦ inr (too_long many) ]; refused = λ holds. refused (some holds) }
+      -- `LogFull` where the job's log refused a piece, and else only where a run of it may need too many tables
+      pub full_with : {T : Type 0} (result : Result T Fault) (many : Bool) → (IsErrOf result LogFull → (0 < new.layers.log.refused) ⊎ IsTrue many) → (0 < new.layers.log.refused → IsErrOf result LogFull) → IsFullWhere result many changed
+      full_with result many only refused = record { only = λ is. elim (only is) [ inl holds ↦ inl (now_refused holds) | inr passes ↦ inr passes ]; refused = λ holds. refused (some holds) }
         where
           some : IsTrue (has_refused changed) → 0 < new.layers.log.refused
           some holds = by new.layers.log.refused refl
@@ -196,7 +210,7 @@ module _ (before after : HostState) (session : LiveSession) (word : JobWord) (li
       }
 
       -- a call on the job that met a fault
-      pub fault_worked : {T : Type 0} (work : Work) (fault : Fault) → HasFaultCause {T = T} before after (Err fault) → (IsErrOf {T = T} (Err fault) LogFull → (0 < new.layers.log.refused) ⊎ IsTooLong live) → (0 < new.layers.log.refused → IsErrOf {T = T} (Err fault) LogFull)
+      pub fault_worked : {T : Type 0} (work : Work) (fault : Fault) → HasFaultCause {T = T} before after (Err fault) → (IsErrOf {T = T} (Err fault) LogFull → (0 < new.layers.log.refused) ⊎ IsTrue (work.many session)) → (0 < new.layers.log.refused → IsErrOf {T = T} (Err fault) LogFull)
           → ((s : Session) → IsTrue before.tells → Stands before session s → fault ≡ LogFull → IsShort (work.job s)) → IsWorked work before after session changed (Err fault)
       fault_worked {T} work fault cause full refused short = record {
         sound = tt;
@@ -207,7 +221,7 @@ module _ (before after : HostState) (session : LiveSession) (word : JobWord) (li
         images = λ s tells stands. own_job_images s (work.step s).session.registry tells stands;
         silent = silent_only only;
         cause = handed_cause fault (none_yet before) cause;
-        full = full_with (Err fault) (λ is. full (ap Err (ap fault_or is))) (λ some. ap Err (ap (fault_or {T = T}) (refused some)));
+        full = full_with (Err fault) (work.many session) (λ is. full (ap Err (ap fault_or is))) (λ some. ap Err (ap (fault_or {T = T}) (refused some)));
         short = λ s tells stands is. short s tells stands (ap fault_or is);
         reads = λ quiet. tt;
         names = tt;

@@ -28,7 +28,7 @@ use Rattle.dfs_session.specs.Session.{Session, Step, Registry, Publication, live
 use Rattle.dfs_session.specs.Sound.{IsSound, jobs_of, listed_in, live_in}
 use Rattle.dfs_session.specs.Stands.{Stands, LeavesValue}
 use Rattle.dfs_job.specs.declared.settings.Settings.{Settings}
-use Rattle.dfs_session.specs.Worked.{AreNamed, IsShort, IsWorked, Work}
+use Rattle.dfs_session.specs.Worked.{AreNamed, IsFullWhere, IsShort, IsWorked, Work}
 use Rattle.dfs_session.proofs.Changing.{Found}
 use Rattle.dfs_session.proofs.Faults.{sound_refused, full_by}
 use Rattle.dfs_session.proofs.Images.{images_on, read_images}
@@ -108,8 +108,8 @@ module _ (host : HostState) (session : LiveSession) (s : Session) (w : JobWord) 
 
 pub after_reads : (before mid after : HostState) (session new : LiveSession) (does did : Work) (result : Result (Vec ℕ) Fault) → IsSound before session → OnlyReads before mid → NoFault before mid
     → ((s : Session) → IsTrue before.tells → Stands before session s → does.step s ≡ did.step s) → ((s : Session) → does.job s ≡ did.job s) → ((t : Settings) → does.settings t ≡ did.settings t) → IsWorked did mid after session new result
-    → (does.quiet session → OnOk result (after.reads ≡ before.reads)) → does.names ≡ did.names → IsWorked does before after session new result
-after_reads before mid after session new does did result sound only none same job settings worked reads named =
+    → (does.quiet session → OnOk result (after.reads ≡ before.reads)) → does.names ≡ did.names → does.many session ≡ did.many session → IsWorked does before after session new result
+after_reads before mid after session new does did result sound only none same job settings worked reads named many =
     let stands_mid : (s : Session) → IsTrue before.tells → Stands before session s → Stands mid session s = λ s tells stands. stands_read before mid session s only tells stands in
     record {
       sound = worked.sound;
@@ -122,7 +122,7 @@ after_reads before mid after session new does did result sound only none same jo
           (subst (λ (t : Step). LeavesOnly (HoldsEither s.registry t.session.registry) mid after) (sym (same s tells stands)) (worked.images s (only.tells ∙ tells) (stands_mid s tells stands)));
       silent = silent_on (silent_reads only) worked.silent;
       cause = cause_of_last none worked.cause result (λ fault is. is) (λ is. is);
-      full = worked.full;
+      full = subst (λ (b : Bool). IsFullWhere result b new) (sym many) worked.full;
       short = λ s tells stands is. subst IsShort (sym (job s)) (worked.short s (only.tells ∙ tells) (stands_mid s tells stands) is);
       reads = reads;
       names = subst (λ (names : Option (List SnapName)). OnOk result (AreNamed names session new)) (sym named) worked.names;
@@ -141,7 +141,7 @@ read_fault_worked {T} before after session work fault sound only cause full = re
   images = λ s tells stands. read_images before after session s (work.step s).session.registry tells sound stands only;
   silent = silent_reads only;
   cause = handed_cause fault (none_yet before) cause;
-  full = full_by (Err fault) session session (λ is. full (ap fault_or is)) (sound_refused session sound.memory);
+  full = full_by (Err fault) (work.many session) session (λ is. full (ap fault_or is)) (sound_refused session sound.memory);
   short = λ s tells stands is. absurd (full (ap fault_or is));
   reads = λ quiet. tt;
   names = tt;

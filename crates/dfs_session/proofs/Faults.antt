@@ -41,5 +41,5 @@ memory_no_log_full (Ok x) memory is = subst IsNoLogFull is tt
 memory_no_log_full (Err fault) memory is = subst IsNoLogFull (ap (λ (f : Fault). Err f) (sym memory) ∙ is) tt
 
 -- where no log refused a piece, no answer is that a log is full
-pub full_by : {T : Type 0} (result : Result T Fault) (old session : LiveSession) → (IsErrOf result LogFull → ⊥) → has_refused session ≡ false → IsFullWhere result old session
-full_by result old session never none = record { only = λ is. absurd (never is); refused = λ holds. absurd (not_true (has_refused session) none holds) }
+pub full_by : {T : Type 0} (result : Result T Fault) (many : Bool) (session : LiveSession) → (IsErrOf result LogFull → ⊥) → has_refused session ≡ false → IsFullWhere result many session
+full_by result many session never none = record { only = λ is. absurd (never is); refused = λ holds. absurd (not_true (has_refused session) none holds) }

@@ -157,15 +157,6 @@ any_set test (e ∷ es) old x is refused = by (test e.0) (λ later. any_behind (
     by true rest first = ap (λ (b : Bool). b || list_any (λ f. nat_lt 0 f.1.layers.log.refused) es) refused
     by false rest later = rest later
 
--- the job that is found is one of them
-pub any_there : (test_of : LiveJob → Bool) (test : JobWord → Bool) (es : Live) (x : LiveJob) → lookup test es ≡ Some x → test_of x ≡ true → list_any (λ e. test_of e.1) es ≡ true
-any_there test_of test [] x is holds = absurd (none-some x is)
-any_there test_of test (e ∷ es) x is holds = by (test e.0) (λ later. any_behind (test_of e.1) _ (any_there test_of test es x later holds)) is
-  where
-    by : (b : Bool) → (lookup test es ≡ Some x → (test_of e.1 || list_any (λ f. test_of f.1) es) ≡ true) → cond b (Some e.1) (lookup test es) ≡ Some x → (test_of e.1 || list_any (λ f. test_of f.1) es) ≡ true
-    by true rest first = ap (λ (b : Bool). b || list_any (λ f. test_of f.1) es) (ap test_of (same_Some e.1 x first) ∙ holds)
-    by false rest later = rest later
-
 -- ---- live jobs and plain ones
 
 module _ (host : HostState) where

@@ -16,3 +16,6 @@ mod Beginning
 mod Publishing
 mod Choosing
 pub mod Runs
+mod Single
+mod Alone
+pub mod Rooms

@@ -31,7 +31,7 @@ use Rattle.dfs_script.specs.declared.JobWord.{JobWord}
 use Rattle.dfs_view.specs.Layers.{selected}
 use Rattle.dfs_job.specs.declared.job.Job.{Job as LiveJob}
 use Rattle.dfs_job.specs.Job.{Job, own_changes}
-use Rattle.dfs_job.specs.Stands.{JobStands, StandsForOne}
+use Rattle.dfs_job.specs.Stands.{JobStands, StandsForOne, publishes_too_many}
 use Rattle.dfs_session.specs.declared.keeping.Kept.{Kept}
 use Rattle.dfs_session.specs.declared.session.Session.{Session as LiveSession}
 use Rattle.dfs_session.specs.Files.{publication_of, publications_of, value_read, value_on}
@@ -40,7 +40,7 @@ use Rattle.dfs_session.specs.Kept.{EachBegun, IsOwn}
 use Rattle.dfs_session.specs.Session.{Session, Step, Registry, of_live, publication_by, publishes_anew, word_cmp}
 use Rattle.dfs_session.specs.Sound.{AreApart, IsEntry, IsListed, IsLive, IsSound, NoneHas, PlainOf, number_of, jobs_of, listed_in, live_in}
 use Rattle.dfs_session.specs.Stands.{EntryStands, Stands, LogIsSettled, LeavesValue}
-use Rattle.dfs_session.specs.Worked.{IsWorked, has_refused, publishing_anew}
+use Rattle.dfs_session.specs.Worked.{IsWorked, has_refused, job_is, publishing_anew}
 use Rattle.dfs_session.proofs.Begun.{HasEnded, each_ended, each_mapped, found_front, kept_still, still_none}
 use Rattle.dfs_session.proofs.Changing.{Found, found_job, listed_kept, own_job_images, own_keeps, own_value, was_live}
 use Rattle.dfs_session.proofs.Faults.{sound_refused, not_true, full_by}
@@ -145,7 +145,7 @@ module _ (before mid after : HostState) (session : LiveSession) (word : JobWord)
     images = publishing_images;
     silent = silent_on (silent_only sealing) (silent_only listing);
     cause = handed_cause fault none cause;
-    full = full_by (Err fault) session new (λ is. full (ap fault_or is)) refused;
+    full = full_by (Err fault) (job_is publishes_too_many (live_in session word)) new (λ is. full (ap fault_or is)) refused;
     short = λ s tells stands is. absurd (full (ap fault_or is));
     reads = λ quiet. tt;
     names = tt;
@@ -295,7 +295,7 @@ module _ (before mid after : HostState) (session : LiveSession) (word : JobWord)
         images = publishing_images before mid after session word live sound found sealing listing listed same_job writing changes settled;
         silent = silent_on (silent_only sealing) (silent_only listing);
         cause = memory_cause (Ok bytes) none tt;
-        full = full_by (Ok bytes) session published_session (ok_never LogFull) (sound_refused published_session published_sound.memory);
+        full = full_by (Ok bytes) (job_is publishes_too_many (live_in session word)) published_session (ok_never LogFull) (sound_refused published_session published_sound.memory);
         short = λ s tells stands is. absurd (ok_never LogFull is);
         reads = λ quiet. absurd quiet;
         names = ended_names session published_session None live.ids.job refl ended (subst (AllByRecursion (λ e. number_of live ≢ number_of e.1)) (sym gone) apart) published_sound.memory;

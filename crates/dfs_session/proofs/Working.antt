@@ -94,7 +94,7 @@ worked_by_memory before after old new work result memory silent none refused set
   images = images;
   silent = silent;
   cause = memory_cause result none memory;
-  full = full_by result old new (λ is_full. it_is_memory result LogFull memory is_full) refused;
+  full = full_by result (work.many old) new (λ is_full. it_is_memory result LogFull memory is_full) refused;
   short = λ s tells stood is_full. absurd (it_is_memory result LogFull memory is_full);
   reads = reads;
   names = names;

@@ -1,5 +1,6 @@
 pub mod Session
 pub mod Run
+pub mod Isolation
 pub mod Files
 pub mod Kept
 pub mod Sound
@@ -7,3 +8,4 @@ pub mod Stands
 pub mod Worked
 pub mod Selected
 pub mod Images
+pub mod Room

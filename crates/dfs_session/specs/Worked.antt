@@ -1,5 +1,5 @@
 -- What the working of a line does.
-use Rattle.std.specs.Prelude.{◌≡◌, ◌≤◌, ◌<◌, ◌⊎◌, ℕ, Bool, nat_lt, IsTrue, List, map, Option, Some, None, Result, Ok, Err, OnOk, IfOk, IsErrOf}
+use Rattle.std.specs.Prelude.{◌≡◌, ◌≤◌, ◌<◌, ◌⊎◌, ℕ, Bool, false, nat_lt, IsTrue, List, map, Option, Some, None, Result, Ok, Err, OnOk, IfOk, IsErrOf}
 use Rattle.std.specs.List.{AllByRecursion, list_all, list_any}
 use Rattle.std.specs.Global.{Vec}
 use Rattle.dfs_host.specs.Fault.{HasFaultCause}
@@ -27,11 +27,11 @@ use Rattle.dfs_script.specs.Line.{meaning}
 use Rattle.dfs_job.specs.declared.settings.Settings.{Settings}
 use Rattle.dfs_job.specs.declared.job.Job.{Job as LiveJob}
 use Rattle.dfs_job.specs.Job.{Job, after, after_plan, does, need}
-use Rattle.dfs_job.specs.Stands.{most_blocks}
+use Rattle.dfs_job.specs.Stands.{merges_too_many, publishes_too_many}
 use Rattle.dfs_session.specs.Selected.{is_selected}
 use Rattle.dfs_session.specs.Session.{Session, Step, after_command, after_meaning, begins, begins_over, flushes, live_job, merges, of_job, operates_for, plans, publishes_anew, publishes_for, sets, with_setting}
 use Rattle.dfs_session.specs.Kept.{begin_in}
-use Rattle.dfs_session.specs.Sound.{IsSound, jobs_of, number_of}
+use Rattle.dfs_session.specs.Sound.{IsSound, jobs_of, live_in, number_of}
 use Rattle.dfs_session.specs.Stands.{Stands, LeavesValue}
 
 -- the answer of an opening, by what the registry's file stands for
@@ -46,29 +46,31 @@ OpensAs reading (Err reg.Disk) = Unit {0}
 abbrev pub has_refused : LiveSession → Bool
 has_refused session = list_any (λ e. nat_lt 0 e.1.layers.log.refused) (jobs_of session)
 
--- whether a live job may need more blocks than the 131,072 tables of a run have
-abbrev pub has_too_long : LiveSession → Bool
-has_too_long session = list_any (λ e. nat_lt 536870912 (most_blocks e.1)) (jobs_of session)
+-- whether there is a job under the word that the test holds of
+abbrev pub job_is : (LiveJob → Bool) → Option LiveJob → Bool
+job_is test None = false
+job_is test (Some job) = test job
 
--- `LogFull` exactly where a log refused a piece or a run would have one table too many.
-pub record IsFullWhere {T : Type 0} (result : Result T Fault) (old new : LiveSession) : Type 0 where
-  pub only : IsErrOf result LogFull → IsTrue (has_refused new) ⊎ IsTrue (has_too_long old)
+-- `LogFull` where a log refused a piece, and else only where a run may need too many tables.
+pub record IsFullWhere {T : Type 0} (result : Result T Fault) (many : Bool) (new : LiveSession) : Type 0 where
+  pub only : IsErrOf result LogFull → IsTrue (has_refused new) ⊎ IsTrue many
   pub refused : IsTrue (has_refused new) → IsErrOf result LogFull
 
 -- ---- what a line works
 
 -- What a line does, the job that it works, with what it makes of that job, what it leaves of the settings, the sessions of which it
--- reads nothing, and the names that a job selects which it begins.
+-- reads nothing, the names that a job selects which it begins, and whether the run that it merges may need too many tables.
 pub record Work : Type 1 where
   pub step : Session → Step
   pub job : Session → Option Job
   pub settings : Settings → Settings
   pub quiet : LiveSession → Type 0
   pub names : Option (List SnapName)
+  pub many : LiveSession → Bool
 
 -- a line that no log is written for and that leaves the settings
 abbrev pub plain : (Session → Step) → Work
-plain does = record { step = does; job = λ s. None; settings = λ t. t; quiet = λ session. ⊥; names = None }
+plain does = record { step = does; job = λ s. None; settings = λ t. t; quiet = λ session. ⊥; names = None; many = λ session. false }
 
 -- each of the names stands in the begin of a live job
 abbrev pub AreSelected : List SnapName → LiveSession → Type 0
@@ -105,14 +107,14 @@ abbrev pub planning : JobWord → Scope → Option ℕ → Work
 planning w scope parts = record (plain (λ s. plans s w scope parts)) { job = λ s. with_plan_made scope parts (live_job s w) }
 
 abbrev pub merging : JobWord → ℕ → Work
-merging w part = record (plain (λ s. merges s w part)) { job = λ s. live_job s w }
+merging w part = record (plain (λ s. merges s w part)) { job = λ s. live_job s w; many = λ session. job_is merges_too_many (live_in session w) }
 
 abbrev pub publishing : JobWord → SnapName → Work
-publishing w name = record (plain (λ s. publishes_for s w name)) { job = λ s. live_job s w }
+publishing w name = record (plain (λ s. publishes_for s w name)) { job = λ s. live_job s w; many = λ session. job_is publishes_too_many (live_in session w) }
 
 -- the same under a new name
 abbrev pub publishing_anew : JobWord → SnapName → Work
-publishing_anew w name = record (plain (λ s. of_job s w (λ j. publishes_anew s w j name))) { job = λ s. live_job s w }
+publishing_anew w name = record (plain (λ s. of_job s w (λ j. publishes_anew s w j name))) { job = λ s. live_job s w; many = λ session. job_is publishes_too_many (live_in session w) }
 
 -- the job that a command works
 abbrev pub job_of : Session → Line → Option Job
@@ -170,8 +172,22 @@ names_of (Stats w) = None
 names_of (Publish w name) = None
 names_of (End w) = None
 
+-- whether the run that a command merges may need too many tables
+abbrev pub many_of : Line → LiveSession → Bool
+many_of Nothing session = false
+many_of (Set what value) session = false
+many_of Snapshots session = false
+many_of (Begin w names) session = false
+many_of (Space w op) session = false
+many_of (Flush w) session = false
+many_of (Plan w scope parts) session = false
+many_of (Part w part) session = job_is merges_too_many (live_in session w)
+many_of (Stats w) session = false
+many_of (Publish w name) session = job_is publishes_too_many (live_in session w)
+many_of (End w) session = false
+
 abbrev pub of_command : Line → Work
-of_command line = record { step = λ s. after_command s line; job = λ s. job_of s line; settings = λ t. settings_of t line; quiet = λ session. IsQuiet line session; names = names_of line }
+of_command line = record { step = λ s. after_command s line; job = λ s. job_of s line; settings = λ t. settings_of t line; quiet = λ session. IsQuiet line session; names = names_of line; many = λ session. many_of line session }
 
 -- the job that a line works, with what it makes of that job
 abbrev pub job_by : Session → Result Line LineFault → Option Job
@@ -191,8 +207,12 @@ abbrev pub names_by : Result Line LineFault → Option (List SnapName)
 names_by (Ok line) = names_of line
 names_by (Err fault) = None
 
+abbrev pub many_by : Result Line LineFault → LiveSession → Bool
+many_by (Ok line) session = many_of line session
+many_by (Err fault) session = false
+
 abbrev pub of_meaning : Result Line LineFault → Work
-of_meaning line = record { step = λ s. after_meaning s line; job = λ s. job_by s line; settings = λ t. settings_by t line; quiet = λ session. quiet_by line session; names = names_by line }
+of_meaning line = record { step = λ s. after_meaning s line; job = λ s. job_by s line; settings = λ t. settings_by t line; quiet = λ session. quiet_by line session; names = names_by line; many = λ session. many_by line session }
 
 abbrev pub of_line : List ℕ → Work
 of_line line = of_meaning (meaning line)
@@ -224,7 +244,7 @@ pub record IsWorked (work : Work) (before now : HostState) (old new : LiveSessio
   pub images : (s : Session) → Told before (Stands before old s → LeavesOnly (HoldsEither s.registry (work.step s).session.registry) before now)
   pub silent : SaysNothing before now
   pub cause : HasFaultCause before now result
-  pub full : IsFullWhere result old new
+  pub full : IsFullWhere result (work.many old) new
   pub short : (s : Session) → Told before (Stands before old s → IsErrOf result LogFull → IsShort (work.job s))
   pub reads : work.quiet old → OnOk result (now.reads ≡ before.reads)
   pub names : OnOk result (AreNamed work.names old new)

@@ -6,6 +6,8 @@
 //! plain one, specs/Run what a whole script writes.
 #![tactic(auto)]
 
+ghost use Rattle.dfs_session.specs.Isolation.{IsIsolated};
+
 mod begin;
 mod commands;
 mod keeping;
@@ -15,3 +17,8 @@ mod session;
 mod settings;
 
 pub use session::Session;
+
+/// What a job is told about its namespace are the answers that it would get alone.
+pub fn isolated()
+    ensures { IsIsolated }
+{}

@@ -73,7 +73,7 @@ impl Session {
     ghost use Rattle.dfs_session.specs.Sound.{IsSound};
     ghost use Rattle.dfs_job.specs.Stands.{AreSettings};
     ghost use Rattle.dfs_session.specs.Stands.{Stands, LeavesValue};
-    ghost use Rattle.dfs_session.specs.Worked.{AreNamed, OpensAs, IsShort, IsWorked, has_refused, has_too_long, job_by, names_by, of_command, of_line, settings_by};
+    ghost use Rattle.dfs_session.specs.Worked.{AreNamed, OpensAs, IsShort, IsWorked, has_refused, job_by, many_by, names_by, of_command, of_line, settings_by};
 
     /// Opens the registry of a host. Jobs that begin are given the settings.
     pub fn open<H: Host>(
@@ -133,9 +133,9 @@ impl Session {
         ensures durable { (s : PlainSession) → Told (H.state host.old) (Stands (H.state host.old) self.old s → OnOk result (HoldsNow (step_of s line.now).session.registry (H.state host.new))) }
         ensures silent { SaysNothing (H.state host.old) (H.state host.new) }
         ensures cause { HasFaultCause (H.state host.old) (H.state host.new) result }
-        // `LogFull` exactly where the log of a job refused a piece in this line or a run would have a table too many, and only where the
-        // log of the line's job is too short for what that job selected and made, this line counted.
-        ensures full { IsErrOf result Fault.LogFull → IsTrue (has_refused self.new) ⊎ IsTrue (has_too_long self.old) }
+        // `LogFull` where the log of a job refused a piece in this line, and else only where the run that the line merges may need too
+        // many tables; and only where the log of the line's job is too short for what that job selected and made, this line counted.
+        ensures full { IsErrOf result Fault.LogFull → IsTrue (has_refused self.new) ⊎ IsTrue (many_by (meaning line.now) self.old) }
         ensures refused { IsTrue (has_refused self.new) → IsErrOf result Fault.LogFull }
         ensures short { (s : PlainSession) → Told (H.state host.old) (Stands (H.state host.old) self.old s → IsErrOf result Fault.LogFull → IsShort (job_by s (meaning line.now))) }
         // Each live job keeps the names of its begin, as long as it lives.

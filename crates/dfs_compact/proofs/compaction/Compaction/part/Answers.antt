@@ -1,4 +1,4 @@
-use Rattle.std.proofs.Common.{inl, inr, ◌≡◌, ◌∙◌, refl, sym, ap, subst, arith, map, List, true, false, Global}
+use Rattle.std.proofs.Common.{inl, inr, ◌≡◌, ◌∙◌, refl, sym, ap, subst, arith, length, map, List, true, false, Global}
 use Rattle.std.specs.declared.rc.Rc.{Rc}
 use Rattle.dfs_host.specs.Host.{bytes_of}
 use Rattle.std.specs.Prelude.{Some, Option, slice_get}
@@ -13,7 +13,7 @@ use Rattle.dfs_compact.specs.Compaction.{CompactionState, IsMerged, Stands}
 use Rattle.dfs_compact.specs.Parts.{AreSources, count_all, tables_of}
 use Rattle.dfs_compact.proofs.Counting.{few_in_all, few_with_next, set_counted}
 use Rattle.dfs_compact.proofs.Covering.{join_few}
-use Rattle.dfs_compact.proofs.Staying.{merged_there, never_done, none_there, not_merged, set_all, set_here, stands_on, stands_still}
+use Rattle.dfs_compact.proofs.Staying.{merged_there, never_done, none_there, not_merged, set_all, set_here, set_tables, stands_on, stands_still}
 use Rattle.dfs_compact.proofs.compaction.Compaction.part.Goals as goal
 
 pub keep-requires-clause-within : goal.keep-requires-clause-within
@@ -62,6 +62,21 @@ returns-clause-growth g c =
       ap (λ (ms : List (Option Run)). count_of (all_fences (tables_of ms))) same,
       set_counted c.self.inside.merged.items c.args.part c.in_ok-run.run' there,
       ap (λ (s : CompactionState). count_of (all_fences (tables_of s.merged))) c.self.view_is,
+    )
+
+pub returns-clause-tables : goal.returns-clause-tables
+returns-clause-tables g c =
+    let same = ap (λ (s : CompactionState). s.merged) (c.self-2.view_is ∙ c.in-Ok.ensures.kept) in
+    let there = none_there c.self.inside.merged.items c.args.part c.index.result.now (omega (arith, c.if-part-len.false, c.len-2.ensures)) c.index.ensures (sym c.is_some.ensures ∙ c.if-is_some.false) in
+    omega (
+      arith,
+      c.in_ok-run.ensures.enough,
+      c.in_ok-run.ensures.most,
+      ap (λ (ms : List (Option Run)). length (tables_of ms)) same,
+      set_tables c.self.inside.merged.items c.args.part c.in_ok-run.run' there,
+      ap (λ (s : CompactionState). length (tables_of s.merged)) c.self.view_is,
+      ap (λ (rs : List (Rc Run Global)). count_all (map (λ r. r.value) rs)) c.deref.ensures.value,
+      ap (λ (s : CompactionState). count_all s.sources) c.self.view_is,
     )
 
 pub returns-clause-most : goal.returns-clause-most

@@ -6,7 +6,7 @@ use Rattle.dfs_host.specs.Host.{Only, bytes_of}
 use Rattle.dfs_compact.specs.Parts.{count_all}
 use Rattle.dfs_job.specs.declared.planning.UnderWay.{UnderWay}
 use Rattle.dfs_job.specs.Job.{merged_as}
-use Rattle.dfs_job.specs.Stands.{JobStands, plan_tables}
+use Rattle.dfs_job.specs.Stands.{JobStands}
 use Rattle.dfs_job.proofs.Merges.{part_full, part_answers, part_shorts, part_stands, with_state}
 use Rattle.dfs_job.proofs.job.Job.merge.Goals as goal
 

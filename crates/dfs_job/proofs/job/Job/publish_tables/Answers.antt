@@ -8,7 +8,9 @@ use Rattle.dfs_view.specs.Lists.{flushed}
 use Rattle.dfs_view.specs.View.{closed_count}
 use Rattle.dfs_job.specs.declared.settings.Settings.{Settings}
 use Rattle.dfs_job.proofs.Keeping.{account_short, too_many_short}
+use Rattle.dfs_job.specs.Stands.{own_count}
 use Rattle.dfs_job.proofs.Layers.{flushed_closed}
+use Rattle.dfs_job.proofs.Parting.{passes_more}
 use Rattle.dfs_job.proofs.job.Job.publish_tables.Goals as goal
 
 pub seal-requires-clause-sealable : goal.seal-requires-clause-sealable
@@ -45,12 +47,21 @@ returns-in_err-flush-clause-short g c = λ j tells stands is.
       ap (λ (s : Settings). s.log_bytes) stands.settings,
     )
 
+pub returns-clause-full : goal.returns-clause-full
+returns-clause-full g c is =
+    let of = c.in_ok-flush.ensures in
+    let old = c.args.self.now in
+    elim (c.seal.ensures.full is) [
+      | inl some ↦ inl some
+      | inr many ↦ inr (passes_more (closed_count c.flush.new.layers) (own_count old + old.layers.buffer.made) old.settings.parts (omega (arith, of.works.counted)) many)
+    ]
+
 pub returns-clause-short : goal.returns-clause-short
 returns-clause-short g c = λ j tells stands is.
     let of = c.in_ok-flush.ensures in
     let old = c.args.self.now in
     let few = stands.account.few in
-    elim (c.seal.ensures.full is) [
+    elim (c.seal.ensures.overfull (of.cause.tells ∙ tells) is) [
       | inl some ↦
           omega (
             arith,
@@ -59,5 +70,5 @@ returns-clause-short g c = λ j tells stands is.
             c.requires.sound.fit.log_bytes,
             ap (λ (s : Settings). s.log_bytes) stands.settings,
           )
-      | inr many ↦ too_many_short old j c.requires.sound.fit stands.settings (omega (arith, many, of.works.counted, few))
+      | inr many ↦ too_many_short old j c.requires.sound.fit stands.settings (omega (arith, many, of.works.counted, few, c.requires.sound.fit.settings.parts_most))
     ]

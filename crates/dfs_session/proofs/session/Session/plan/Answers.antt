@@ -17,7 +17,7 @@ use Rattle.dfs_job.specs.declared.answers.Planned.{Planned}
 use Rattle.dfs_job.specs.Job.{Job, after_plan}
 use Rattle.dfs_session.specs.Session.{of_live, plans_with, told_of_plan}
 use Rattle.dfs_session.specs.Worked.{IsShort, IsWorked, planning, with_plan_made}
-use Rattle.dfs_session.proofs.Changing.{answered_worked, changed_stands, fault_worked, found_job, no_job, parts_within, same_basis, was_sound}
+use Rattle.dfs_session.proofs.Changing.{answered_worked, changed_stands, fault_worked, found_job, no_job, parts_within, plan_short, same_basis, was_sound}
 use Rattle.dfs_session.proofs.Handed.{none_unless}
 use Rattle.dfs_session.proofs.Selecting.{no_fault}
 use Rattle.dfs_session.proofs.Working.{stays_in_memory}
@@ -59,7 +59,7 @@ returns-in_err-answer g c =
     (subst (λ (r : Result Planned Fault). HasFaultCause before after r) was c.plan.ensures.cause) (λ is. inl (c.plan.ensures.full.0 (was ∙ is))) (λ some. sym was ∙ c.plan.ensures.full.1 some)
     (λ s tells stands is.
     let f = found_job before session s w live stands found in
-    subst (λ (o : Option Job). IsShort (with_plan_made c.args.scope c.args.parts o)) (sym f.found) (c.plan.ensures.short f.plain tells f.is (was ∙ ap Err is))))
+    subst (λ (o : Option Job). IsShort (with_plan_made c.args.scope c.args.parts o)) (sym f.found) (plan_short f.plain c.args.scope c.args.parts (c.plan.ensures.short f.plain tells f.is (was ∙ ap Err is)))))
 
 pub returns : goal.returns
 returns g c =

@@ -17,5 +17,5 @@ mod Publishing
 mod Choosing
 pub mod Runs
 mod Single
-mod Alone
+pub mod Alone
 pub mod Rooms

@@ -1,4 +1,4 @@
-use Rattle.std.proofs.Common.{◌≡◌, ◌∙◌, List, ℕ, [], Some, None, refl, ap, subst, sym}
+use Rattle.std.proofs.Common.{◌≡◌, ◌∙◌, List, ℕ, [], Some, None, Err, refl, ap, subst, sym}
 use Rattle.dfs_gen.specs.Summary.{Counts}
 use Rattle.dfs_host.specs.Host.{said_of}
 use Rattle.dfs_host.proofs.Moments.{goes_on}
@@ -7,11 +7,13 @@ use Rattle.deltafs.specs.declared.status.Status.{Status}
 use Rattle.deltafs.specs.declared.status.Status.TheVariants.{Usage}
 use Rattle.deltafs.specs.declared.words.Command.{Command}
 use Rattle.deltafs.specs.declared.words.Command.TheVariants.{Run, Gen}
-use Rattle.deltafs.specs.Causes.{IsOfLines}
+use Rattle.deltafs.specs.Causes.{DiskFaultsOf, IsOfLines, SayFaultsOf}
 use Rattle.deltafs.specs.Commands.{Keeps, Says}
+use Rattle.deltafs.specs.Complete.{IsCompleted, IsWithin, JobsHaveRoom}
 use Rattle.deltafs.specs.Lines.{IsAfter}
 use Rattle.deltafs.specs.Says.{Untaken}
 use Rattle.deltafs.specs.Words.{command_of}
+use Rattle.deltafs.proofs.Completing.{completes_gen, completes_run, completes_unopened, disk_unopened, never_done, no_disk_fault, no_output_fault, no_source_fault, no_words, none_by, tells_isolated}
 use Rattle.deltafs.proofs.Faults.{limit_unopened, takes_none}
 use Rattle.deltafs.proofs.Leaving.{idle, opened_first, opening, prompt_idle, shut_idle}
 use Rattle.deltafs.proofs.Starting.{gen_run, says_nothing, says_unopened, some_none}
@@ -70,6 +72,27 @@ returns-in-Run-clause-no_input g c other = absurd (other (sym c.command_of.ensur
 pub returns-in-Run-clause-no_limit : goal.returns-in-Run-clause-no_limit
 returns-in-Run-clause-no_limit g c other = absurd (other (sym c.command_of.ensures ∙ c.in-Some.is ∙ ap Some c.in-Run.is))
 
+pub returns-in-Run-clause-complete : goal.returns-in-Run-clause-complete
+returns-in-Run-clause-complete g c old start room within none =
+    let host = g.H.Host.state c.args.host.now in
+    let source = g.S.Source.state c.args.source.now in
+    let new = g.H.Host.state c.run_script.new.host in
+    let rest = (g.S.Source.state c.run_script.new.source).rest in
+    let status = c.run_script.result in
+    let is : command_of c.args.words.now ≡ Some Run = sym c.command_of.ensures ∙ c.in-Some.is ∙ ap Some c.in-Run.is in
+    let opened = c.open.ensures.cause.other (λ is. absurd (cc (is, c.in-Ok-open.is))) in
+    let cause = c.run_script.ensures.cause in
+    completes_run old c.args.limits.script_bytes source.rest rest (said_of new) (value_on new) status (subst (λ k. JobsHaveRoom k old source.rest) is room) (subst (λ k. IsWithin k c.args.limits.script_bytes source.rest) is within)
+    (subst (λ k. Says k status old source.rest rest (said_of new) (value_on new)) is (returns-in-Run-clause-says g c old start)) (c.run_script.ensures.limit (start.source_tells is))
+    (no_disk_fault status host.disk_faults new.disk_faults (subst (λ n. DiskFaultsOf status n new.disk_faults) opened cause.disk_faults) none.disk)
+    (no_output_fault status host.say_faults new.say_faults (subst (λ n. SayFaultsOf status n new.say_faults) c.open.ensures.cause.say_faults cause.say_faults) none.output)
+    (no_source_fault status source.faults (g.S.Source.state c.run_script.new.source).faults c.run_script.ensures.input none.input) (cause.never_changed (c.open.ensures.cause.tells ∙ start.host_tells))
+
+pub returns-in-Run-clause-isolated : goal.returns-in-Run-clause-isolated
+returns-in-Run-clause-isolated g c old start run done =
+    tells_isolated old (g.S.Source.state c.args.source.now).rest (g.S.Source.state c.run_script.new.source).rest (said_of (g.H.Host.state c.run_script.new.host)) (value_on (g.H.Host.state c.run_script.new.host)) (command_of c.args.words.now) c.run_script.result run
+    done (returns-in-Run-clause-says g c old start)
+
 -- A generated script.
 
 pub returns-in-Gen-clause-says : goal.returns-in-Gen-clause-says
@@ -110,6 +133,23 @@ returns-in-Gen-clause-usage g c = (
 pub returns-in-Gen-clause-limit : goal.returns-in-Gen-clause-limit
 returns-in-Gen-clause-limit g c run tells = absurd (gen_run c.in-Gen.creates (sym (sym c.command_of.ensures ∙ c.in-Some.is ∙ ap Some c.in-Gen.is) ∙ run))
 
+pub returns-in-Gen-clause-complete : goal.returns-in-Gen-clause-complete
+returns-in-Gen-clause-complete g c old start room within none =
+    let host = g.H.Host.state c.args.host.now in
+    let source = g.S.Source.state c.args.source.now in
+    let new = g.H.Host.state c.run_generated.new.host in
+    let status = c.run_generated.result in
+    let is : command_of c.args.words.now ≡ Some (Gen c.in-Gen.creates) = sym c.command_of.ensures ∙ c.in-Some.is ∙ ap Some c.in-Gen.is in
+    let opened = c.open.ensures.cause.other (λ is. absurd (cc (is, c.in-Ok-open.is))) in
+    let cause = c.run_generated.ensures.cause in
+    completes_gen old c.args.limits.script_bytes source.rest source.rest (said_of new) (value_on new) c.in-Gen.creates status (subst (λ k. JobsHaveRoom k old source.rest) is room)
+    (subst (λ k. Says k status old source.rest source.rest (said_of new) (value_on new)) is (returns-in-Gen-clause-says g c old start))
+    (no_disk_fault status host.disk_faults new.disk_faults (subst (λ n. DiskFaultsOf status n new.disk_faults) opened cause.disk_faults) none.disk)
+    (no_output_fault status host.say_faults new.say_faults (subst (λ n. SayFaultsOf status n new.say_faults) c.open.ensures.cause.say_faults cause.say_faults) none.output) (cause.never_changed (c.open.ensures.cause.tells ∙ start.host_tells))
+
+pub returns-in-Gen-clause-isolated : goal.returns-in-Gen-clause-isolated
+returns-in-Gen-clause-isolated g c old start run done = absurd (gen_run c.in-Gen.creates (sym (sym c.command_of.ensures ∙ c.in-Some.is ∙ ap Some c.in-Gen.is) ∙ run))
+
 -- A registry that was not opened.
 
 pub returns-in-Err-clause-says : goal.returns-in-Err-clause-says
@@ -139,6 +179,19 @@ pub returns-in-Err-clause-shut : goal.returns-in-Err-clause-shut
 returns-in-Err-clause-shut g c tells settled none =
     record { said = ((c.open.ensures.silent tells settled).content tells).said; untaken = refl; value = c.open.ensures.value tells settled ∙ none; only = c.open.ensures.only tells settled }
 
+pub returns-in-Err-clause-complete : goal.returns-in-Err-clause-complete
+returns-in-Err-clause-complete g c old start room within none =
+    let mid = g.H.Host.state c.open.new.host in
+    let script = (g.S.Source.state c.args.source.now).rest in
+    let command = command_of c.args.words.now in
+    let says = returns-in-Err-clause-says g c old start in
+    subst IsCompleted (sym c.unopened.ensures)
+    (completes_unopened old c.args.limits.script_bytes script script (said_of mid) (value_on mid) command c.in-Err.fault room (subst (λ (s : Status). Says command s old script script (said_of mid) (value_on mid)) c.unopened.ensures says)
+    (λ is. none.disk (c.open.ensures.cause.disk (c.in-Err.is ∙ ap Err (disk_unopened c.in-Err.fault is)))))
+
+pub returns-in-Err-clause-isolated : goal.returns-in-Err-clause-isolated
+returns-in-Err-clause-isolated g c old start run done = absurd (never_done c.in-Err.fault (sym c.unopened.ensures ∙ done))
+
 -- Other words.
 
 pub returns-in_default-clause-images : goal.returns-in_default-clause-images
@@ -149,6 +202,9 @@ returns-in_default-clause-prompt g c old start = prompt_idle old _ _
 
 pub returns-in_default-clause-shut : goal.returns-in_default-clause-shut
 returns-in_default-clause-shut g c tells settled none = record { said = refl; untaken = refl; value = none; only = shut_idle (g.H.Host.state c.args.host.now) settled }
+
+pub returns-in_default-clause-complete : goal.returns-in_default-clause-complete
+returns-in_default-clause-complete g c old start room within none = absurd (no_words (command_of c.args.words.now) old (g.S.Source.state c.args.source.now).rest (sym c.command_of.ensures ∙ none_by c.command_of.result c.in_default.not-Some) room)
 
 -- Want of memory at the start.
 

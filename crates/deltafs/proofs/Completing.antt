@@ -1,0 +1,124 @@
+-- What a run ends with that no fault stops, and what it told each job.
+use Rattle.std.proofs.Common.{◌≡◌, ◌∙◌, ◌+◌, ◌<◌, ℕ, List, [], ◌∷◌, ◌++◌, length, Option, Some, None, Ok, refl, sym, ap, subst, arith, append_assoc, length-append}
+use Rattle.dfs_gen.specs.Script.{script as generated}
+use Rattle.dfs_host.specs.Counts.{Rose}
+use Rattle.dfs_registry.specs.declared.fault.RegFault.{RegFault}
+use Rattle.dfs_registry.specs.declared.fault.RegFault.TheVariants as reg
+use Rattle.dfs_reply.specs.Text.{text}
+use Rattle.dfs_script.specs.Script.{lines_of}
+use Rattle.dfs_session.specs.Room.{HaveRoom}
+use Rattle.dfs_session.specs.Run.{session_after, written}
+use Rattle.dfs_session.specs.Session.{Registry, Session, default_settings, opened, step}
+use Rattle.dfs_session.proofs.Alone.{isolated}
+use Rattle.dfs_session.proofs.Rooms.{never_short, none_single}
+use Rattle.dfs_session.proofs.Runs.{written-append}
+use Rattle.deltafs.specs.declared.status.Status.{Status}
+use Rattle.deltafs.specs.declared.status.Status.TheVariants.{Done, Usage, NotRegistry, RegistryDamaged, DiskFault, OutputFault, SourceFault, NoMemory, LogFull, ScriptTooLong, Changed}
+use Rattle.deltafs.specs.declared.words.Command.{Command}
+use Rattle.deltafs.specs.declared.words.Command.TheVariants.{Run, Gen}
+use Rattle.deltafs.specs.Causes.{DiskFaultsOf, SayFaultsOf, SourceFaultsOf}
+use Rattle.deltafs.specs.Commands.{Says}
+use Rattle.deltafs.specs.Complete.{IsCompleted, IsWithin, JobsHaveRoom}
+use Rattle.deltafs.specs.Isolated.{AreIsolated}
+use Rattle.deltafs.specs.Refusals.{status_of}
+use Rattle.deltafs.specs.Says.{StopsShort, Untaken}
+
+-- no run of jobs that have room stops at a full log
+never_full : (old : Registry) (heard : List (List ℕ) → List ℕ) (script said : List ℕ) (files : Option Registry) → HaveRoom (opened old) (lines_of script) → StopsShort (opened old) heard script said files → ⊥
+never_full old heard script said files room stops =
+    never_short (opened old) stops.before stops.line stops.after (none_single old) (subst (λ lines. HaveRoom (opened old) lines) stops.cut room) stops.short
+
+-- no fault where no count rose
+pub no_disk_fault : (status : Status) (a b : ℕ) → DiskFaultsOf status a b → ¬ (Rose a b) → status ≡ DiskFault → ⊥
+no_disk_fault status a b faults none is = none ((subst (λ s. DiskFaultsOf s a b) is faults).1)
+
+pub no_output_fault : (status : Status) (a b : ℕ) → SayFaultsOf status a b → ¬ (Rose a b) → status ≡ OutputFault → ⊥
+no_output_fault status a b faults none is = none ((subst (λ s. SayFaultsOf s a b) is faults).1)
+
+pub no_source_fault : (status : Status) (a b : ℕ) → SourceFaultsOf status a b → ¬ (Rose a b) → status ≡ SourceFault → ⊥
+no_source_fault status a b faults none is = none ((subst (λ s. SourceFaultsOf s a b) is faults).1)
+
+module _ (old : Registry) (limit : ℕ) (script rest said : List ℕ) (files : Option Registry) where
+  pub completes_run : (status : Status) → HaveRoom (opened old) (lines_of script) → length script < limit → Says (Some Run) status old script rest said files → Untaken status limit script rest
+      → (status ≡ DiskFault → ⊥) → (status ≡ OutputFault → ⊥) → (status ≡ SourceFault → ⊥) → (status ≡ Changed → ⊥) → IsCompleted status
+  completes_run Done room within says untaken disk output input changed = tt
+  completes_run Usage room within says untaken disk output input changed = says
+  completes_run NotRegistry room within says untaken disk output input changed = says
+  completes_run (RegistryDamaged place) room within says untaken disk output input changed = says
+  completes_run DiskFault room within says untaken disk output input changed = disk refl
+  completes_run OutputFault room within says untaken disk output input changed = output refl
+  completes_run SourceFault room within says untaken disk output input changed = input refl
+  completes_run NoMemory room within says untaken disk output input changed = tt
+  completes_run LogFull room within says untaken disk output input changed = never_full old _ script said files room says
+  completes_run ScriptTooLong room within says untaken disk output input changed =
+      let takes = untaken.0 in
+      let limit_taken : length takes.taken ≡ limit = untaken.1 in
+      absurd (omega (arith, within, limit_taken, ap length takes.whole, length-append takes.taken rest))
+  completes_run Changed room within says untaken disk output input changed = changed refl
+
+  pub completes_gen : (creates : ℕ) (status : Status) → HaveRoom (opened old) (lines_of (generated creates)) → Says (Some (Gen creates)) status old script rest said files
+      → (status ≡ DiskFault → ⊥) → (status ≡ OutputFault → ⊥) → (status ≡ Changed → ⊥) → IsCompleted status
+  completes_gen creates Done room says disk output changed = tt
+  completes_gen creates Usage room says disk output changed = says
+  completes_gen creates NotRegistry room says disk output changed = says
+  completes_gen creates (RegistryDamaged place) room says disk output changed = says
+  completes_gen creates DiskFault room says disk output changed = disk refl
+  completes_gen creates OutputFault room says disk output changed = output refl
+  completes_gen creates SourceFault room says disk output changed = says
+  completes_gen creates NoMemory room says disk output changed = tt
+  completes_gen creates LogFull room says disk output changed = never_full old _ (generated creates) said files room says
+  completes_gen creates ScriptTooLong room says disk output changed = says
+  completes_gen creates Changed room says disk output changed = changed refl
+
+  -- a registry that stands is opened, but for want of memory
+  pub completes_unopened : (command : Option Command) (fault : RegFault) → JobsHaveRoom command old script → Says command (status_of fault) old script rest said files → (status_of fault ≡ DiskFault → ⊥) → IsCompleted (status_of fault)
+  completes_unopened None fault room says disk = absurd room
+  completes_unopened (Some Run) reg.NotRegistry room says disk = says
+  completes_unopened (Some Run) (reg.Damaged place) room says disk = says
+  completes_unopened (Some Run) reg.NoMemory room says disk = tt
+  completes_unopened (Some Run) reg.Disk room says disk = disk refl
+  completes_unopened (Some (Gen creates)) reg.NotRegistry room says disk = says
+  completes_unopened (Some (Gen creates)) (reg.Damaged place) room says disk = says
+  completes_unopened (Some (Gen creates)) reg.NoMemory room says disk = tt
+  completes_unopened (Some (Gen creates)) reg.Disk room says disk = disk refl
+
+pub disk_unopened : (fault : RegFault) → status_of fault ≡ DiskFault → fault ≡ reg.Disk
+disk_unopened reg.NotRegistry is = absurd (cc is)
+disk_unopened (reg.Damaged place) is = absurd (cc is)
+disk_unopened reg.NoMemory is = absurd (cc is)
+disk_unopened reg.Disk is = refl
+
+pub never_done : (fault : RegFault) → status_of fault ≡ Done → ⊥
+never_done reg.NotRegistry is = absurd (cc is)
+never_done (reg.Damaged place) is = absurd (cc is)
+never_done reg.NoMemory is = absurd (cc is)
+never_done reg.Disk is = absurd (cc is)
+
+pub none_by : (o : Option Command) → ((x : Command) → o ≡ Some x → ⊥) → o ≡ None
+none_by None never = refl
+none_by (Some x) never = absurd (never x refl)
+
+-- words that ask for nothing have no script
+pub no_words : (command : Option Command) (old : Registry) (script : List ℕ) → command ≡ None → JobsHaveRoom command old script → ⊥
+no_words command old script none room = subst (λ k. JobsHaveRoom k old script) none room
+
+-- ---- what each job was told
+
+first_written : (s : Session) (line : List ℕ) (after : List (List ℕ)) → written s (line ∷ after) ≡ text (step s line).reply ++ written (step s line).session after
+first_written s line after = refl
+
+-- the reply to a line stands behind what the lines before it write
+heard_behind : (s : Session) (lines after : List (List ℕ)) (line : List ℕ) (t : Session) → session_after s lines ≡ t → written s (lines ++ line ∷ after) ≡ written s lines ++ text (step t line).reply ++ written (step t line).session after
+heard_behind s lines after line t is =
+    written-append s lines (line ∷ after) ∙ ap (λ (x : Session). written s lines ++ written x (line ∷ after)) is ∙ ap (λ (l : List ℕ). written s lines ++ l) (first_written t line after)
+    ∙ sym (append_assoc (written s lines) (text (step t line).reply) (written (step t line).session after))
+
+pub tells_isolated : (old : Registry) (script rest said : List ℕ) (files : Option Registry) (command : Option Command) (status : Status) → command ≡ Some Run → status ≡ Done → Says command status old script rest said files → AreIsolated old script said
+tells_isolated old script rest said files command status run done says earlier later after begin line w names op number cut is_begin begun still is_line =
+    let whole = subst (λ s. Says (Some Run) s old script rest said files) done (subst (λ k. Says k status old script rest said files) run says) in
+    record {
+      reply = (step (session_after (opened old) (earlier ++ begin ∷ later)) line).reply;
+      more = written (step (session_after (opened old) (earlier ++ begin ∷ later)) line).session after;
+      heard = whole.said_all ∙ ap (written (opened old)) cut ∙ heard_behind (opened old) (earlier ++ begin ∷ later) after line (session_after (opened old) (earlier ++ begin ∷ later)) refl;
+      alone = isolated default_settings old earlier later begin line w names op number is_begin begun still is_line;
+    }

@@ -125,8 +125,10 @@ fn the_order_of_the_parts_of_a_plan_does_not_show(rt: HostRuntime) -> Result<(),
 #[test]
 fn a_plan_has_256_parts_at_most(rt: HostRuntime) -> Result<(), Fail> {
     let alloc = rt.alloc();
-    let mut script = b"begin j\nj mkdir /d 755 1\nj create /d/f 644 1 1 r\nj plan all 257\nj plan all 256\nj part 256\n"
-        .to_vec(alloc)?;
+    let mut script =
+        b"begin j\nj mkdir /d 755 1\nj create /d/f 644 1 1 r\nj plan all 257\nj plan all 256\nj part 256\n".to_vec(
+            alloc,
+        )?;
     let mut said = b"ok job 1\nok\nok\nerror syntax\nok\nerror range\n".to_vec(alloc)?;
     for part in 1..256 {
         script.extend_from_slice(format!(in alloc; "j part {part}\n")?.as_bytes())?;

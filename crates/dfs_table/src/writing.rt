@@ -90,7 +90,7 @@ pub fn write_tables<H: Host, R: Records + Drop>(
     // What the log had stays, also where a device call failed.
     ensures before { Told (H.state host.old) (take log.old.len (bytes_of (H.state host.new) log.old.file) ≡ bytes_of (H.state host.old) log.old.file) }
 
-    // `LogFull` exactly where the log refused a piece or one table too many would be begun, which so many records do not need.
+    // `LogFull` where the log refused a piece, and else only where a table too many may be begun, which so few records do not need.
     ensures full { IsErrOf result Fault.LogFull → (0 < log.new.refused) ⊎ (4096 * tables_left < length (R.rest records)) }
     ensures refused { 0 < log.new.refused → IsErrOf result Fault.LogFull }
     ensures over { 0 < log.new.refused → log.new.limit < log.new.len + log.new.refused }

@@ -30,7 +30,7 @@ loop-part-preserved g c =
     let file = h.left.file in
     let refused : IsRefusal answer → after ≡ before = λ refusal. (x.refused refusal).0 in
     let stands : (ds : List Delta) → IsTrue start.tells → Stands (bytes_of start) c.args.log.now.file c.args.compaction.now ds → Stands (bytes_of new) c.args.log.now.file after ds = λ ds tells held.
-        subst (λ n. Stands (bytes_of new) n after ds) file (x.stands ds (h.left.only.tells ∙ tells) (subst (λ n. Stands (bytes_of mid) n before ds) (sym file) (h.stands ds tells held))) in
+    subst (λ n. Stands (bytes_of new) n after ds) file (x.stands ds (h.left.only.tells ∙ tells) (subst (λ n. Stands (bytes_of mid) n before ds) (sym file) (h.stands ds tells held))) in
     record {
       merged = merged_on before after part c.part.result answer was refused x.added (omega (arith, c.loop-part-test.true, h.parts, c.requires.parts)) h.len all.range all.done h.merged;
       len = len_on before after part c.part.result answer was refused x.added h.len all.same.2;

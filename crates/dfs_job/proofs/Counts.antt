@@ -1,10 +1,8 @@
 -- The records of a job's closed layers are so few that 64 bits hold their number.
-use Rattle.std.proofs.Common.{◌≡◌, ◌∙◌, ◌≤◌, ◌+◌, ◌*◌, ℕ, List, [], ◌∷◌, length, refl, sym, ap, arith, length-append}
+use Rattle.std.proofs.Common.{◌≤◌, ◌*◌, ℕ, List, [], ◌∷◌, length, ap, arith, length-append}
 use Rattle.std.specs.Prelude.{flat_map}
 use Rattle.std.specs.List.{AllByRecursion, sum_by}
-use Rattle.std.proofs.lemmas.List.Concat.{length-flat_map}
 use Rattle.std.proofs.lemmas.List.Sums.{sum_by-append, sum_by-cons}
-use Rattle.std.proofs.Math.Nat.{mul-le-mul_right}
 use Rattle.dfs_host.specs.Host.{HostState, bytes_of}
 use Rattle.dfs_record.specs.declared.Record.{Record}
 use Rattle.std.specs.Int.{to_be_bytes, w16}
@@ -12,9 +10,7 @@ use Rattle.dfs_record.specs.declared.Entry.TheVariants.{Dir, File}
 use Rattle.dfs_record.specs.declared.Value.{Value}
 use Rattle.dfs_record.specs.declared.Value.TheVariants.{Del, Put}
 use Rattle.dfs_record.specs.Record.{key_bytes, spelling, value_bytes}
-use Rattle.dfs_record.specs.Delta.{delta}
 use Rattle.dfs_fence.specs.declared.fence.Fence.{Fence}
-use Rattle.dfs_block.specs.Block.{block_bytes}
 use Rattle.dfs_table.specs.declared.run.Run.{Run}
 use Rattle.dfs_table.specs.declared.table.Table.{Table}
 use Rattle.dfs_table.specs.Counts.{count_of}
@@ -24,7 +20,7 @@ use Rattle.dfs_view.specs.Layers.{AreStored, own_runs, run_count}
 use Rattle.dfs_view.specs.View.{IsOwnRun}
 use Rattle.dfs_job.specs.declared.job.Job.{Job as LiveJob}
 use Rattle.dfs_job.specs.Job.{Job}
-use Rattle.dfs_job.specs.Stands.{JobIsFit, JobStands, own_count}
+use Rattle.dfs_job.specs.Stands.{JobIsFit, JobStands}
 use Rattle.dfs_job.proofs.Sealing.{stored_lengths}
 
 -- the spelling of a record has a byte at least

@@ -1,16 +1,15 @@
 -- The last part of a plan: one layer stands in the place of all that it covered.
-use Rattle.std.proofs.Common.{◌≡◌, ◌∙◌, ◌≤◌, ◌<◌, ◌+◌, ◌*◌, ℕ, zero, suc, Bool, true, false, cond, nat_lt, List, [], ◌∷◌, ◌++◌, length, map, take, drop, refl, sym, ap, subst, arith, append-nil, append_assoc, length-append}
-use Rattle.std.specs.Prelude.{Option, Some, None, IsTrue, IsFalse, flat_map, fold}
+use Rattle.std.proofs.Common.{◌≡◌, ◌∙◌, ◌≤◌, ◌+◌, ◌*◌, ℕ, zero, suc, Bool, true, false, cond, nat_lt, List, [], ◌∷◌, ◌++◌, length, map, take, drop, refl, sym, ap, subst, arith, append-nil, append_assoc, length-append}
+use Rattle.std.specs.Prelude.{Some, None, IsFalse, flat_map, fold}
 use Rattle.std.specs.List.{AllByRecursion, AllZip, sum_by}
 use Rattle.std.specs.declared.cmp.Ordering.{Ordering}
 use Rattle.std.specs.declared.cmp.Ordering.TheVariants.{Less, Equal, Greater}
 use Rattle.std.specs.FinMap.Entries.{put, by_order}
 use Rattle.std.proofs.lemmas.Bool.{ltb-false, ltb-true}
 use Rattle.std.proofs.lemmas.Grind.{flat_map-append}
-use Rattle.std.proofs.lemmas.List.{map-append, take-append-drop}
+use Rattle.std.proofs.lemmas.List.{take-append-drop}
 use Rattle.std.proofs.lemmas.List.Folds.{flat_map-map}
 use Rattle.std.proofs.lemmas.List.Sums.{fold-append, sum_by-append, sum_by-cons, sum_by-take-drop}
-use Rattle.std.proofs.Math.Nat.{mul-le-mul_right}
 use Rattle.dfs_host.specs.Host.{HostState, bytes_of}
 use Rattle.dfs_record.specs.declared.Key.{Key}
 use Rattle.dfs_record.specs.declared.Record.{Record}
@@ -18,7 +17,7 @@ use Rattle.dfs_record.specs.declared.Value.{Value}
 use Rattle.dfs_record.specs.Delta.{Delta, delta, merged as merged_list, records_of, with_record}
 use Rattle.dfs_record.specs.Key.{key_cmp}
 use Rattle.dfs_record.specs.KeyMap.{empty, len}
-use Rattle.dfs_record.specs.Namespace.{after_records, replay}
+use Rattle.dfs_record.specs.Namespace.{replay}
 use Rattle.dfs_record.proofs.Replays.{delta-records_of}
 use Rattle.dfs_buffer.specs.Buffer.{Buffered, StandsFor}
 use Rattle.dfs_fence.specs.declared.fence.Fence.{Fence}
@@ -32,21 +31,19 @@ use Rattle.dfs_change.specs.declared.change.Change.{Change}
 use Rattle.dfs_change.specs.Identities.{AreFit as AreOfJob, FitsJob}
 use Rattle.dfs_table.specs.declared.run.Run.{Run}
 use Rattle.dfs_table.specs.declared.table.Table.{Table}
-use Rattle.dfs_table.specs.Counts.{count_of}
 use Rattle.dfs_table.specs.Stored.{IsBlockOf, IsStored, IsTableOf, records_at, records_by, run_records}
-use Rattle.dfs_table.specs.Tables.{all_fences}
 use Rattle.dfs_table.specs.Writer.{AreIn}
-use Rattle.dfs_table.proofs.Stays.{all_append, all_behind, all_front}
+use Rattle.dfs_table.proofs.Stays.{all_append}
 use Rattle.dfs_compact.specs.Parts.{count_all, tables_of}
-use Rattle.dfs_view.specs.Layers.{AreStored, LiesIn, Stand, own_runs, run_count, selected}
-use Rattle.dfs_view.specs.Lists.{Layered, joined}
+use Rattle.dfs_view.specs.Layers.{AreStored, LiesIn, own_runs, run_count, selected}
+use Rattle.dfs_view.specs.Lists.{joined}
 use Rattle.dfs_view.specs.View.{IsOwnRun}
 use Rattle.dfs_job.specs.declared.settings.Settings.{Settings}
 use Rattle.dfs_job.specs.declared.job.Job.{Job as LiveJob}
 use Rattle.dfs_job.specs.declared.planning.UnderWay.{UnderWay}
 use Rattle.dfs_job.specs.Job.{Job, Plan, basis_covered, basis_left, covered_changes, covered_records, join, namespace_of, placed}
 use Rattle.dfs_job.specs.Parted.{placed_run}
-use Rattle.dfs_job.specs.Stands.{AreSettings, IsEarlier, IsFair, IsStoredFor, JobIsFit, JobStands, PlanIsFit, PlanStands, PlansAreFit, PlansStand, basis_count, basis_runs, left_changes, merged_count, own_count, sources_of, under_way}
+use Rattle.dfs_job.specs.Stands.{AreSettings, IsEarlier, IsFair, IsStoredFor, JobIsFit, JobStands, PlansAreFit, PlansStand, basis_count, basis_runs, left_changes, merged_count, own_count, under_way}
 use Rattle.dfs_job.proofs.Layers.{deltas_from}
 use Rattle.dfs_job.proofs.Merges.{plan_fit, plan_stand}
 use Rattle.dfs_job.proofs.Plans.{counted-append, counted_runs}

@@ -1,32 +1,28 @@
 -- A part of a plan was merged.
-use Rattle.std.proofs.Common.{◌≡◌, ◌≢◌, ◌∙◌, ◌≤◌, ◌<◌, ◌+◌, ◌*◌, ◌⊎◌, ◌↔◌, inl, inr, ℕ, zero, suc, Bool, true, false, if◌then◌else◌, nat_le, List, [], ◌∷◌, ◌++◌, length, map, take, drop, refl, sym, ap, subst, arith, length-append}
+use Rattle.std.proofs.Common.{◌≡◌, ◌≢◌, ◌∙◌, ◌≤◌, ◌<◌, ◌+◌, ◌*◌, ◌⊎◌, ◌↔◌, inl, inr, ℕ, zero, suc, Bool, true, false, if◌then◌else◌, nat_le, List, [], ◌∷◌, ◌++◌, length, map, take, drop, refl, sym, ap, subst, arith}
 use Rattle.std.specs.Prelude.{Option, Some, None, Result, Ok, IsSome, IsSomeAnd, IsTrue, IsFalse, get_or, is_some, slice_get, slice_set}
-use Rattle.std.specs.List.{AllByRecursion, AllZip, list_all, sum_by}
+use Rattle.std.specs.List.{AllByRecursion, list_all}
 use Rattle.std.proofs.lemmas.Bool.{le-leb, leb-false, leb-true, lt-leb, lt-ltb}
 use Rattle.std.proofs.lemmas.List.{length-map, take-append-drop}
-use Rattle.std.proofs.Math.Nat.{mul-le-mul_right}
-use Rattle.dfs_host.specs.Host.{HostState, Only, Told, bytes_of}
+use Rattle.dfs_host.specs.Host.{HostState, Only, bytes_of}
 use Rattle.dfs_record.specs.declared.Record.{Record}
 use Rattle.dfs_record.specs.Delta.{Delta, delta}
 use Rattle.dfs_record.specs.Records.{Files}
 use Rattle.dfs_log.specs.Logs.{LogState, LogStands}
-use Rattle.dfs_ops.specs.declared.Ids.{Ids}
 use Rattle.dfs_change.specs.declared.change.Change.{Change}
 use Rattle.dfs_table.specs.declared.run.Run.{Run}
 use Rattle.dfs_table.specs.declared.table.Table.{Table}
 use Rattle.dfs_table.specs.Counts.{count_of}
-use Rattle.dfs_table.specs.Stored.{IsStored, IsTableOf}
+use Rattle.dfs_table.specs.Stored.{IsTableOf}
 use Rattle.dfs_table.specs.Tables.{all_fences}
 use Rattle.dfs_table.specs.Writer.{AreIn}
 use Rattle.dfs_table.proofs.Stays.{all_weaker, tables_stay}
 use Rattle.dfs_compact.specs.declared.compaction.Parted.{Parted}
 use Rattle.dfs_compact.specs.declared.compaction.Parted.TheVariants as parted
 use Rattle.dfs_compact.specs.Compaction.{AreMerged, CompactionState, IsAdded, IsMerged, IsOverfull, IsRefusal, IsWritten, Stands as CompactionStands}
-use Rattle.dfs_plan.specs.Parts.{boundary}
-use Rattle.dfs_compact.specs.Parts.{AreSources, count_all, merged_part, tables_of}
-use Rattle.dfs_compact.proofs.Staying.{set_length, stored_on}
-use Rattle.dfs_view.specs.declared.layers.Layers.{Layers}
-use Rattle.dfs_view.specs.Layers.{AreFit, AreStored, LiesIn, Stand, own_runs, selected}
+use Rattle.dfs_compact.specs.Parts.{AreSources, count_all, tables_of}
+use Rattle.dfs_compact.proofs.Staying.{stored_on}
+use Rattle.dfs_view.specs.Layers.{AreStored, LiesIn, own_runs, selected}
 use Rattle.dfs_job.specs.declared.settings.Settings.{Settings}
 use Rattle.dfs_job.specs.declared.answers.JobPart.{JobPart}
 use Rattle.dfs_job.specs.declared.answers.JobPart.TheVariants.{Merged, Last, NoPlan, Range, Done}
@@ -34,7 +30,7 @@ use Rattle.dfs_job.specs.declared.job.Job.{Job as LiveJob}
 use Rattle.dfs_job.specs.declared.planning.UnderWay.{UnderWay}
 use Rattle.dfs_job.specs.Job.{Job, Plan, basis_covered, covered_changes, joined_as, marked, merged_as, need, part_answer_of, parted_as, with_part}
 use Rattle.dfs_job.specs.Parted.{answer_by}
-use Rattle.dfs_job.specs.Stands.{IsFair, IsInAccount, IsStoredFor, JobIsFit, JobStands, PlanIsFit, PlanStands, PartsAreStored, PlansAreFit, PlansStand, basis_count, merged_count, merges_too_many, own_count, plan_count, plan_tables, under_way}
+use Rattle.dfs_job.specs.Stands.{JobIsFit, JobStands, PlanIsFit, PlanStands, PartsAreStored, PlansAreFit, PlansStand, merged_count, merges_too_many, plan_count, plan_tables, under_way}
 use Rattle.dfs_job.proofs.Apart.{agree_but, basis_apart, basis_still_lies}
 use Rattle.dfs_job.proofs.Keeping.{earlier_apart, too_many_short, within_need}
 use Rattle.dfs_job.proofs.Plans.{covered_counted, covered_sources}

@@ -1,7 +1,7 @@
 -- Parts that are merged one after the other.
-use Rattle.std.proofs.Common.{◌≡◌, ◌∙◌, ◌≤◌, ◌<◌, ◌+◌, ◌*◌, ◌⊎◌, inl, inr, ℕ, zero, suc, pred, Bool, true, false, List, [], ◌∷◌, length, map, refl, sym, ap, subst, arith, append-nil}
-use Rattle.std.specs.Prelude.{Option, Some, None, Result, Ok, Err, IfOk, IsErrOf, IsSome, IsSomeAnd, IsTrue, IsFalse, ◌↔◌, flat_map, nat_lt, replicate, slice_get, slice_set}
-use Rattle.std.specs.List.{AllByRecursion, sum_by}
+use Rattle.std.proofs.Common.{◌≡◌, ◌∙◌, ◌≤◌, ◌<◌, ◌+◌, ◌*◌, ◌⊎◌, inl, inr, ℕ, zero, suc, Bool, true, false, List, [], ◌∷◌, length, map, refl, sym, ap, subst, arith}
+use Rattle.std.specs.Prelude.{Option, Some, None, Result, Ok, IsSome, IsSomeAnd, IsTrue, IsFalse, ◌↔◌, flat_map, nat_lt, replicate, slice_get, slice_set}
+use Rattle.std.specs.List.{AllByRecursion}
 use Rattle.std.proofs.lemmas.Bool.{lt-ltb, ltb-false, ltb-true}
 use Rattle.std.proofs.lemmas.List.{length-replicate, take_all}
 use Rattle.std.proofs.lemmas.List.Folds.{flat_map-map}
@@ -22,10 +22,10 @@ use Rattle.dfs_table.specs.Tables.{all_fences}
 use Rattle.dfs_table.specs.Writer.{AreIn}
 use Rattle.dfs_compact.specs.declared.compaction.Parted.{Parted}
 use Rattle.dfs_compact.specs.declared.compaction.Parted.TheVariants.{Merged, Last, Range, Done}
-use Rattle.dfs_compact.specs.Compaction.{AreMerged, CompactionState, IsAdded, IsMerged, IsOverfull, IsRefusal, IsWritten, Stands}
+use Rattle.dfs_compact.specs.Compaction.{AreMerged, CompactionState, IsAdded, IsMerged, IsRefusal, IsWritten, Stands}
 use Rattle.dfs_compact.specs.Parts.{AreSources, count_all, tables_of}
 use Rattle.dfs_compact.proofs.Staying.{set_length}
-use Rattle.dfs_view.specs.Layers.{AreStored, run_count}
+use Rattle.dfs_view.specs.Layers.{AreStored}
 use Rattle.dfs_view.specs.View.{IsOwnRun}
 use Rattle.dfs_job.specs.Stands.{may_pass}
 use Rattle.dfs_job.proofs.Layers.{deltas_joined}

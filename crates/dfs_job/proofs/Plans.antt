@@ -1,41 +1,34 @@
 -- What a job stands for as a plan begins, and as its parts are merged.
-use Rattle.std.proofs.Common.{◌≡◌, ◌≢◌, ◌∙◌, ◌≤◌, ◌<◌, ◌+◌, ◌-◌, ◌*◌, ℕ, zero, suc, Bool, true, false, if◌then◌else◌, nat_le, List, [], ◌∷◌, ◌++◌, length, map, take, drop, get_or, refl, sym, ap, subst, arith, append_assoc, length-append}
-use Rattle.std.specs.Prelude.{Option, Some, None, Result, Ok, Err, OnOk, IsSome, IsSomeAnd, IsTrue, IsFalse, is_some, replicate, slice_get, slice_set, unwrap_or}
-use Rattle.std.specs.List.{AllByRecursion, AllZip, list_all, sum_by}
+use Rattle.std.proofs.Common.{◌≡◌, ◌∙◌, ◌≤◌, ◌<◌, ◌+◌, ◌-◌, ◌*◌, ℕ, zero, suc, Bool, false, if◌then◌else◌, nat_le, List, [], ◌∷◌, ◌++◌, length, map, take, drop, get_or, refl, sym, ap, subst, arith, append_assoc}
+use Rattle.std.specs.Prelude.{Option, Some, None, Result, Ok, Err, OnOk, IsSome, IsTrue, IsFalse, is_some, replicate, slice_get}
+use Rattle.std.specs.List.{AllByRecursion, AllZip, sum_by}
 use Rattle.std.proofs.lemmas.Bool.{lt-leb}
 use Rattle.std.proofs.lemmas.List.{length-drop, length-replicate, map-append, take_all}
 use Rattle.std.proofs.lemmas.Simd.{map-map}
 use Rattle.std.proofs.lemmas.List.Sums.{sum_by-append, sum_by-cons, sum_by-take-le}
-use Rattle.dfs_host.specs.Host.{HostState, Only, Told, bytes_of}
+use Rattle.dfs_host.specs.Host.{HostState, bytes_of}
 use Rattle.dfs_record.specs.declared.Record.{Record}
 use Rattle.dfs_record.specs.Delta.{Delta, delta}
 use Rattle.dfs_record.specs.Records.{Files}
-use Rattle.dfs_log.specs.Logs.{LogState, LogStands}
-use Rattle.dfs_ops.specs.declared.Ids.{Ids}
 use Rattle.dfs_path.specs.declared.Scope.{Scope}
 use Rattle.dfs_path.specs.declared.Scope.TheVariants.{Own, All}
 use Rattle.dfs_change.specs.declared.change.Change.{Change}
 use Rattle.dfs_fence.specs.declared.fence.Fence.{Fence}
 use Rattle.dfs_table.specs.declared.run.Run.{Run}
 use Rattle.dfs_table.specs.Counts.{count_of}
-use Rattle.dfs_table.specs.Stored.{IsStored, IsTableOf}
 use Rattle.dfs_table.specs.Tables.{all_fences}
 use Rattle.dfs_table.specs.Writer.{AreIn}
-use Rattle.dfs_plan.specs.Parts.{boundary}
-use Rattle.dfs_compact.specs.Compaction.{AreMerged, CompactionState, IsMerged, Stands as CompactionStands}
-use Rattle.dfs_compact.specs.Parts.{AreSources, IsSource, count_all, fences_in, merged_part, tables_of}
+use Rattle.dfs_compact.specs.Compaction.{CompactionState}
+use Rattle.dfs_compact.specs.Parts.{AreSources, count_all, fences_in, tables_of}
 use Rattle.dfs_compact.proofs.Covering.{none_at, none_have}
 use Rattle.dfs_compact.proofs.Rounds.{one_further}
-use Rattle.dfs_view.specs.declared.layers.Layers.{Layers}
-use Rattle.dfs_view.specs.Layers.{AreFit, AreStored, LiesIn, Stand, own_runs, run_count, selected}
-use Rattle.dfs_view.specs.View.{IsOwnRun}
-use Rattle.dfs_job.specs.declared.settings.Settings.{Settings}
+use Rattle.dfs_view.specs.Layers.{AreStored, LiesIn, own_runs, run_count, selected}
 use Rattle.dfs_job.specs.declared.answers.Planned.{Planned}
 use Rattle.dfs_job.specs.declared.answers.Planned.TheVariants.{Made, Busy, Full}
 use Rattle.dfs_job.specs.declared.job.Job.{Job as LiveJob}
 use Rattle.dfs_job.specs.declared.planning.UnderWay.{UnderWay}
-use Rattle.dfs_job.specs.Job.{Job, Plan, after_plan, basis_covered, covered_changes, need, plan_answer, plan_answer_beside, planned_as, with_plan}
-use Rattle.dfs_job.specs.Stands.{IsFair, IsInAccount, IsStoredFor, JobIsFit, JobIsSound, JobStands, PlanIsFit, PlanStands, PlansAreFit, PlansStand, basis_count, basis_runs, merged_count, own_count, sources_of, under_way}
+use Rattle.dfs_job.specs.Job.{Job, Plan, after_plan, basis_covered, need, plan_answer, plan_answer_beside, planned_as, with_plan}
+use Rattle.dfs_job.specs.Stands.{IsStoredFor, JobIsFit, JobIsSound, JobStands, PlansStand, basis_count, basis_runs, merged_count, own_count, sources_of, under_way}
 use Rattle.dfs_job.proofs.Sealing.{stored_lengths}
 use Rattle.dfs_job.proofs.Seen.{basis_lies, own_lie}
 

@@ -1,26 +1,21 @@
 -- Runs that are sealed as one.
-use Rattle.std.proofs.Common.{◌≡◌, ◌∙◌, ◌≤◌, ◌+◌, ℕ, suc, zero, List, [], ◌∷◌, ◌++◌, length, take, map, refl, sym, ap, subst, arith, append-nil, length-append}
-use Rattle.std.specs.Prelude.{Option, Some, None, IsSomeAnd, Result, Ok, Err, IfOk, flat_map, slice_get, filter}
+use Rattle.std.proofs.Common.{◌≡◌, ◌∙◌, ◌≤◌, ◌+◌, ℕ, suc, zero, List, [], ◌∷◌, ◌++◌, length, take, refl, sym, ap, subst, arith, append-nil, length-append}
+use Rattle.std.specs.Prelude.{Option, Some, None, IsSomeAnd, Result, Ok, Err, IfOk, flat_map, slice_get}
 use Rattle.std.specs.List.{AllByRecursion, sum_by}
-use Rattle.std.proofs.lemmas.List.{length-map, take_more, take_all}
-use Rattle.std.proofs.lemmas.List.Concat.{length-flat_map}
-use Rattle.std.proofs.lemmas.List.Folds.{flat_map-map}
-use Rattle.std.proofs.lemmas.List.Sums.{sum_by-append, sum_by-cons, sum_by-take-le}
+use Rattle.std.proofs.lemmas.List.{length-map, take_more}
+use Rattle.std.proofs.lemmas.List.Sums.{sum_by-append, sum_by-cons}
 use Rattle.std.proofs.lemmas.Option.{get_or_from_slice_get, slice_get_within}
 use Rattle.dfs_record.specs.declared.Record.{Record}
 use Rattle.dfs_record.specs.Delta.{Delta, delta, records_of}
 use Rattle.dfs_record.specs.KeyMap.{len}
 use Rattle.dfs_record.proofs.Replays.{delta-records_of}
 use Rattle.dfs_fence.specs.declared.fence.Fence.{Fence}
-use Rattle.dfs_fence.specs.Ranges.{meets}
 use Rattle.dfs_table.specs.declared.run.Run.{Run}
 use Rattle.dfs_table.specs.declared.table.Table.{Table}
 use Rattle.dfs_table.specs.Counts.{count_of}
 use Rattle.dfs_table.specs.Identities.{IsWithin}
-use Rattle.dfs_table.specs.RunRecords.{records_meeting}
 use Rattle.dfs_table.specs.Stored.{IsBlockOf, IsStored, IsTableOf, records_at, records_by, run_records, table_records}
 use Rattle.dfs_table.specs.Tables.{all_fences}
-use Rattle.dfs_table.proofs.Rising.{all_records}
 use Rattle.dfs_registry.specs.declared.listed.Listed.{Listed}
 use Rattle.dfs_change.specs.Identities.{AreFit, FitsJob}
 use Rattle.dfs_change.specs.Meant.{log_meaning}
@@ -28,7 +23,7 @@ use Rattle.dfs_change.specs.Whole.{HasChanges}
 use Rattle.dfs_change.proofs.Fits.{all_within}
 use Rattle.dfs_change.proofs.Meant.{whole_logs_mean}
 use Rattle.dfs_view.specs.Layers.{AreStored, run_count}
-use Rattle.dfs_job.proofs.Layers.{delta_few, delta_fits, deltas_joined}
+use Rattle.dfs_job.proofs.Layers.{delta_fits}
 
 -- ---- how many records there are
 

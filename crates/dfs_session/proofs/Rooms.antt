@@ -1,5 +1,5 @@
 -- A job that has room at its end has room all its life.
-use Rattle.std.proofs.Common.{◌≡◌, ◌∙◌, ◌⊎◌, ⊎_elim, ◌+◌, ◌*◌, ◌≤◌, ◌<◌, ℕ, Bool, true, false, cond, List, [], ◌∷◌, ◌++◌, Option, Some, None, Ok, Err, Result, Ordering, Less, Equal, Greater, refl, sym, ap, subst, arith}
+use Rattle.std.proofs.Common.{◌≡◌, ◌∙◌, ◌+◌, ◌*◌, ◌≤◌, ℕ, Bool, true, false, cond, List, [], ◌∷◌, ◌++◌, Option, Some, None, Ok, Err, Result, Ordering, Less, Equal, Greater, refl, sym, ap, subst, arith}
 use Rattle.std.proofs.lemmas.Map.{none_passes_from_lookup}
 use Rattle.std.proofs.lemmas.Option.{none-some, same_Some}
 use Rattle.std.proofs.lemmas.Slice.Eq.{bytes_eq-Decides}
@@ -28,7 +28,7 @@ use Rattle.dfs_job.specs.Job.{Job, Plan, does, after, after_flush, after_part, a
 use Rattle.dfs_session.specs.Session.{Publication, Registry, Session, Step, after_command, after_meaning, begins, begins_unless, begins_with, chosen, is_damaged, is_full, is_published, live_job, of_job, of_live, opened, plans_with, publishes, publishes_anew, refused, step, told, with_job, with_new_job, without_job, word_cmp}
 use Rattle.dfs_session.specs.Room.{EndedHaveRoom, HasRoom, HaveRoom}
 use Rattle.dfs_session.specs.Run.{session_after}
-use Rattle.dfs_session.specs.Worked.{IsShort, job_by, job_of, with_op, with_plan_made}
+use Rattle.dfs_session.specs.Worked.{IsShort, job_by, with_op, with_plan_made}
 use Rattle.dfs_session.proofs.Alone.{live-with_job, same_place, same_word}
 use Rattle.dfs_session.proofs.Single.{IsSingle, found_remove, single_insert, single_remove, single_set}
 

@@ -1,6 +1,5 @@
-use Rattle.std.proofs.Common.{◌++◌, ◌∷◌, [], ◌∙◌, sym, ap, map, take, arith, take_all, append-nil, append_assoc, Global}
+use Rattle.std.proofs.Common.{◌++◌, ◌∷◌, [], ◌∙◌, ap, map, arith, take_all, Global}
 use Rattle.std.specs.declared.rc.Rc.{Rc}
-use Rattle.std.proofs.lemmas.Simd.{map-map}
 use Rattle.dfs_table.specs.declared.run.Run.{Run}
 use Rattle.dfs_change.specs.declared.change.Change.{Change}
 use Rattle.dfs_job.proofs.Plans.{grown_twice}

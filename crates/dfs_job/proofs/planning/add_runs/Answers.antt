@@ -1,4 +1,4 @@
-use Rattle.std.proofs.Common.{◌++◌, ◌∷◌, [], ◌∙◌, sym, ap, map, take, arith, take_all, append-nil, append_assoc, Global}
+use Rattle.std.proofs.Common.{◌++◌, ◌∙◌, ap, map, arith, take_all, Global}
 use Rattle.std.specs.declared.rc.Rc.{Rc}
 use Rattle.dfs_table.specs.declared.run.Run.{Run}
 use Rattle.dfs_job.proofs.Plans.{grown}

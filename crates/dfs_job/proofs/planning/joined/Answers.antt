@@ -1,4 +1,4 @@
-use Rattle.std.proofs.Common.{◌++◌, ◌∙◌, List, [], ◌∷◌, ℕ, zero, suc, ◌≡◌, ap, map, drop, refl, Global}
+use Rattle.std.proofs.Common.{◌++◌, ◌∙◌, ap, map, drop, Global}
 use Rattle.std.specs.declared.rc.Rc.{Rc}
 use Rattle.dfs_table.specs.declared.run.Run.{Run}
 use Rattle.dfs_job.specs.Parted.{placed_run}

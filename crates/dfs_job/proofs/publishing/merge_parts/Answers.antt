@@ -1,4 +1,4 @@
-use Rattle.std.proofs.Common.{inl, inr, ◌≡◌, ◌∙◌, ◌+◌, ◌*◌, List, IsTrue, ap, arith, length, sym, subst}
+use Rattle.std.proofs.Common.{inl, inr, ◌≡◌, ◌∙◌, ◌*◌, List, IsTrue, ap, arith, length, sym, subst}
 use Rattle.std.proofs.lemmas.Result.{err_from_is_err_and}
 use Rattle.dfs_host.specs.Host.{bytes_of}
 use Rattle.dfs_host.proofs.Causes.{none_by}

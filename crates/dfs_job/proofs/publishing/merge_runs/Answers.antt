@@ -1,10 +1,10 @@
-use Rattle.std.proofs.Common.{inl, inr, ◌≡◌, ◌∙◌, ◌+◌, ◌*◌, ap, arith, map, sym, subst}
+use Rattle.std.proofs.Common.{inl, inr, ap, arith, map, subst}
 use Rattle.std.proofs.lemmas.Result.{err_from_is_err_and}
 use Rattle.std.specs.List.{sum_by}
 use Rattle.dfs_host.specs.Host.{bytes_of}
 use Rattle.dfs_record.specs.Delta.{delta}
 use Rattle.dfs_table.specs.Stored.{IsStored}
-use Rattle.dfs_compact.specs.Parts.{AreSources, count_all}
+use Rattle.dfs_compact.specs.Parts.{count_all}
 use Rattle.dfs_view.specs.Layers.{run_count}
 use Rattle.dfs_job.proofs.Parting.{merged_layers, passes_more, runs_are_sources}
 use Rattle.dfs_job.proofs.Plans.{counted_runs}

@@ -1,10 +1,8 @@
-use Rattle.std.proofs.Common.{inl, inr, ◌≡◌, ◌∙◌, ◌+◌, ◌*◌, ap, arith, false, length, refl, sym, subst}
-use Rattle.std.specs.Prelude.{Option, Some, Result, Ok, IsErrOf}
+use Rattle.std.proofs.Common.{◌∙◌, ◌+◌, sym, subst}
+use Rattle.std.specs.Prelude.{IsErrOf}
 use Rattle.dfs_host.specs.declared.fault.Fault.TheVariants.{LogFull}
 use Rattle.std.proofs.lemmas.Result.{err_from_is_err_and}
-use Rattle.dfs_host.specs.Host.{Only, bytes_of}
-use Rattle.dfs_compact.specs.Parts.{count_all}
-use Rattle.dfs_job.specs.declared.planning.UnderWay.{UnderWay}
+use Rattle.dfs_host.specs.Host.{Only}
 use Rattle.dfs_job.specs.Job.{merged_as}
 use Rattle.dfs_job.specs.Stands.{JobStands}
 use Rattle.dfs_job.proofs.Merges.{part_full, part_answers, part_shorts, part_stands, with_state}

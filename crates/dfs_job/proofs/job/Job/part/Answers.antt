@@ -1,6 +1,5 @@
-use Rattle.std.proofs.Common.{◌∙◌, ◌≡◌, ap, sym, subst, refl}
-use Rattle.dfs_job.specs.declared.answers.JobPart.TheVariants.{Last}
-use Rattle.dfs_job.specs.Job.{after_part, merged_as, part_answer, parted_as}
+use Rattle.std.proofs.Common.{◌∙◌, ap, sym, subst}
+use Rattle.dfs_job.specs.Job.{merged_as, parted_as}
 use Rattle.dfs_job.specs.Stands.{JobStands}
 use Rattle.dfs_job.proofs.Merges.{not_last}
 use Rattle.dfs_job.proofs.job.Job.part.Goals as goal

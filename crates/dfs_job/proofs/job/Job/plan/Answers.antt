@@ -1,8 +1,8 @@
-use Rattle.std.proofs.Common.{◌∙◌, ◌≡◌, ◌≤◌, ap, arith, sym, subst, refl}
-use Rattle.std.specs.Prelude.{Option, None, OnOk, unwrap_or}
+use Rattle.std.proofs.Common.{◌∙◌, ap, arith, sym, subst}
+use Rattle.std.specs.Prelude.{OnOk, unwrap_or}
 use Rattle.std.proofs.lemmas.Result.{err_from_is_err_and}
 use Rattle.dfs_job.specs.declared.settings.Settings.{Settings}
-use Rattle.dfs_job.specs.Job.{after_flush, after_plan, plan_answer, planned_as, with_plan}
+use Rattle.dfs_job.specs.Job.{after_flush, planned_as, with_plan}
 use Rattle.dfs_job.specs.Stands.{JobStands}
 use Rattle.dfs_job.proofs.Plans.{is_made, need_more, ok_sound, plan_none}
 use Rattle.dfs_job.proofs.job.Job.plan.Goals as goal

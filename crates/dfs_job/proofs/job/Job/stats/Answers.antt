@@ -1,5 +1,4 @@
-use Rattle.std.proofs.Common.{◌≡◌, ◌∙◌, ◌+◌, ◌≤◌, ap, arith, map}
-use Rattle.std.specs.Prelude.{min}
+use Rattle.std.proofs.Common.{ap, arith, map}
 use Rattle.std.specs.List.{sum_by}
 use Rattle.std.proofs.lemmas.List.{take_all, length-map}
 use Rattle.dfs_host.specs.Host.{bytes_of}

@@ -1,4 +1,4 @@
-use Rattle.std.proofs.Common.{inl, ◌≡◌, ◌∙◌, ◌≤◌, ℕ, Option, Some, None, Result, Err, refl, sym, ap, subst, map}
+use Rattle.std.proofs.Common.{inl, ◌≡◌, ◌∙◌, ℕ, Option, Result, Err, refl, sym, ap, subst, map}
 use Rattle.std.proofs.lemmas.Result.{err_from_is_err_and}
 use Rattle.std.specs.BTreeMap.{BTreeMap}
 use Rattle.std.specs.Global.{Vec}

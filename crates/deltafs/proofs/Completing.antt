@@ -1,5 +1,5 @@
 -- What a run ends with that no fault stops, and what it told each job.
-use Rattle.std.proofs.Common.{◌≡◌, ◌∙◌, ◌+◌, ◌<◌, ℕ, List, [], ◌∷◌, ◌++◌, length, Option, Some, None, Ok, refl, sym, ap, subst, arith, append_assoc, length-append}
+use Rattle.std.proofs.Common.{◌≡◌, ◌∙◌, ◌<◌, ℕ, List, ◌∷◌, ◌++◌, length, Option, Some, None, refl, sym, ap, subst, arith, append_assoc, length-append}
 use Rattle.dfs_gen.specs.Script.{script as generated}
 use Rattle.dfs_host.specs.Counts.{Rose}
 use Rattle.dfs_registry.specs.declared.fault.RegFault.{RegFault}
@@ -18,7 +18,7 @@ use Rattle.deltafs.specs.declared.words.Command.{Command}
 use Rattle.deltafs.specs.declared.words.Command.TheVariants.{Run, Gen}
 use Rattle.deltafs.specs.Causes.{DiskFaultsOf, SayFaultsOf, SourceFaultsOf}
 use Rattle.deltafs.specs.Commands.{Says}
-use Rattle.deltafs.specs.Complete.{IsCompleted, IsWithin, JobsHaveRoom}
+use Rattle.deltafs.specs.Complete.{IsCompleted, JobsHaveRoom}
 use Rattle.deltafs.specs.Isolated.{AreIsolated}
 use Rattle.deltafs.specs.Refusals.{status_of}
 use Rattle.deltafs.specs.Says.{StopsShort, Untaken}

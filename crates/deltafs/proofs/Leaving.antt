@@ -24,7 +24,6 @@ use Rattle.dfs_session.specs.Session.{Session, Registry, Step, opened, step}
 use Rattle.dfs_session.specs.Sound.{IsSound, listed_in}
 use Rattle.dfs_session.specs.Stands.{Stands, LogIsSettled}
 use Rattle.dfs_session.proofs.Runs.{session_after-append}
-use Rattle.deltafs.specs.declared.status.Status.{Status}
 use Rattle.deltafs.specs.declared.status.Status.TheVariants.{Done}
 use Rattle.deltafs.specs.declared.status.Stop.{Stop}
 use Rattle.deltafs.specs.declared.words.Command.{Command}

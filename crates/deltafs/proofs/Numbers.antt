@@ -4,7 +4,7 @@ use Rattle.std.specs.Prelude.{fold, Option, Result, option_and_then, nat_le, nat
 use Rattle.std.specs.List.{list_all}
 use Rattle.std.specs.Str.Parse.{ParsesUnsigned}
 use Rattle.std.proofs.lemmas.Bool.{le-leb, lt-ltb, leb-true, lt-leb}
-use Rattle.std.proofs.lemmas.Str.Parse.{IsDigitsTest, FoldsDigits, IsNumeralModel, numerals_by_fold, parse_digits}
+use Rattle.std.proofs.lemmas.Str.Parse.{IsDigitsTest, FoldsDigits, numerals_by_fold, parse_digits}
 use Rattle.std.specs.Result.{OkIff}
 use mathlib.Core.Bool.{true≢false}
 use Rattle.dfs_record.specs.Name.{is_between, is_digit}

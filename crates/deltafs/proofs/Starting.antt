@@ -5,7 +5,7 @@ use mathlib.Core.Bool.{true≢false}
 use Rattle.std.specs.Prelude.{is_some}
 use Rattle.dfs_gen.specs.Script.{script as generated}
 use Rattle.dfs_host.specs.Host.{HostState, bytes_of}
-use Rattle.dfs_registry.specs.Reading.{registry as reading, not_a_registry, damaged}
+use Rattle.dfs_registry.specs.Reading.{registry as reading}
 use Rattle.dfs_registry.specs.declared.fault.RegFault.{RegFault}
 use Rattle.dfs_registry.specs.declared.fault.RegFault.TheVariants as reg
 use Rattle.dfs_script.specs.Script.{lines_of}

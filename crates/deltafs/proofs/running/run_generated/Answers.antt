@@ -1,4 +1,4 @@
-use Rattle.std.proofs.Common.{List, ℕ, [], ◌≡◌, ◌≢◌, refl, ap, sym, subst, ◌∙◌, arith}
+use Rattle.std.proofs.Common.{List, ℕ, [], ◌≢◌, refl, sym, subst, ◌∙◌, arith}
 use Rattle.dfs_gen.specs.Script.{script}
 use Rattle.dfs_gen.specs.Summary.{Counts}
 use Rattle.dfs_host.specs.Host.{LeavesOnly, said_of}
@@ -9,7 +9,7 @@ use Rattle.dfs_session.specs.Images.{HoldsNow}
 use Rattle.dfs_session.specs.Run.{session_after}
 use Rattle.dfs_session.specs.Session.{opened}
 use Rattle.deltafs.specs.declared.status.Status.{Status}
-use Rattle.deltafs.specs.declared.status.Status.TheVariants.{Done, SourceFault, ScriptTooLong}
+use Rattle.deltafs.specs.declared.status.Status.TheVariants.{SourceFault, ScriptTooLong}
 use Rattle.deltafs.specs.declared.words.Command.TheVariants.{Gen}
 use Rattle.deltafs.specs.Lines.{Ends, IsAfter, IsCounted}
 use Rattle.deltafs.specs.Summed.{KeepsSummary}

@@ -1,11 +1,9 @@
-use Rattle.std.proofs.Common.{◌≡◌, ◌∙◌, List, ℕ, [], Some, None, Err, refl, ap, subst, sym}
+use Rattle.std.proofs.Common.{◌≡◌, ◌∙◌, [], Some, Err, refl, ap, subst, sym}
 use Rattle.dfs_gen.specs.Summary.{Counts}
 use Rattle.dfs_host.specs.Host.{said_of}
 use Rattle.dfs_host.proofs.Moments.{goes_on}
 use Rattle.dfs_session.specs.Files.{value_on}
 use Rattle.deltafs.specs.declared.status.Status.{Status}
-use Rattle.deltafs.specs.declared.status.Status.TheVariants.{Usage}
-use Rattle.deltafs.specs.declared.words.Command.{Command}
 use Rattle.deltafs.specs.declared.words.Command.TheVariants.{Run, Gen}
 use Rattle.deltafs.specs.Causes.{DiskFaultsOf, IsOfLines, SayFaultsOf}
 use Rattle.deltafs.specs.Commands.{Keeps, Says}

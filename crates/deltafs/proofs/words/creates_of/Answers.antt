@@ -1,4 +1,4 @@
-use Rattle.std.proofs.Common.{◌≡◌, List, ℕ, true, sym, ap, ◌∙◌}
+use Rattle.std.proofs.Common.{◌≡◌, true, sym, ap, ◌∙◌}
 use Rattle.std.specs.List.{list_all}
 use Rattle.dfs_record.specs.Name.{is_digit}
 use Rattle.deltafs.proofs.Numbers.{parsed, unparsed, creates_some, creates_above, creates_none}

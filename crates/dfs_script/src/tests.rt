@@ -1,5 +1,6 @@
 use super::*;
 use dfs_path::Op;
+use std::process::Abort;
 use std::test::*;
 
 const SAID: [&[u8]; 18] = [
@@ -175,12 +176,15 @@ fn faults_of_syntax(rt: HostRuntime) {
     }
 }
 
-#[test]
-fn the_values_of_words(rt: HostRuntime) -> Result<(), Fail> {
-    let line = read_line(rt.alloc(), b"w create /a%20b/c 0644 7 8 %41r");
-    let Ok(Line::Space { job, op }) = &line else {
-        return Err("an operation")?;
-    };
+fn expect_bytes(rt: &impl Abort, given: &[u8], expected: &[u8]) {
+    assert_eq!(rt; given, expected);
+}
+
+fn expect_numbers(rt: &impl Abort, given: &[u64], expected: &[u64]) {
+    assert_eq!(rt; given, expected);
+}
+
+fn expect_created(rt: &impl Abort, op: &Op) -> Result<(), Fail> {
     let Op::Create {
         path,
         mode,
@@ -191,14 +195,23 @@ fn the_values_of_words(rt: HostRuntime) -> Result<(), Fail> {
     else {
         return Err("a create")?;
     };
-    assert_eq!(rt; job.bytes(), b"w".as_slice());
-    assert_eq!(rt; path.len(), 2);
-    assert_eq!(rt; path.get(0).bytes(), b"a b".as_slice());
-    assert_eq!(rt; *mode, 420);
-    assert_eq!(rt; *time, 7);
-    assert_eq!(rt; *size, 8);
-    assert_eq!(rt; reference.bytes(), b"Ar".as_slice());
+    if path.len() != 2 {
+        return Err("two components")?;
+    }
+    expect_numbers(rt, &[u64::from(*mode), *time, *size], &[420, 7, 8]);
+    expect_bytes(rt, path.get(0).bytes(), b"a b");
+    expect_bytes(rt, reference.bytes(), b"Ar");
     Ok(())
+}
+
+#[test]
+fn the_values_of_words(rt: HostRuntime) -> Result<(), Fail> {
+    let Ok(Line::Space { job, op }) = read_line(rt.alloc(), b"w create /a%20b/c 0644 7 8 %41r")
+    else {
+        return Err("an operation")?;
+    };
+    expect_bytes(&rt, job.bytes(), b"w");
+    expect_created(&rt, &op)
 }
 
 #[test]

@@ -1,13 +1,16 @@
 -- What a run ends with that no fault stops, and what it told each job.
-use Rattle.std.proofs.Common.{◌≡◌, ◌∙◌, ◌<◌, ℕ, List, ◌∷◌, ◌++◌, length, Option, Some, None, refl, sym, ap, subst, arith, append_assoc, length-append}
+use Rattle.std.proofs.Common.{◌≡◌, ◌∙◌, ◌<◌, ℕ, List, ◌∷◌, ◌++◌, length, Option, Some, None, take, drop, refl, sym, ap, subst, arith, append-nil, append_assoc, length-append}
+use Rattle.std.proofs.lemmas.List.{take-append-drop, take-append-le}
+use Rattle.std.proofs.Math.Seq.{take-append_seam}
 use Rattle.dfs_gen.specs.Script.{script as generated}
 use Rattle.dfs_host.specs.Counts.{Rose}
 use Rattle.dfs_registry.specs.declared.fault.RegFault.{RegFault}
 use Rattle.dfs_registry.specs.declared.fault.RegFault.TheVariants as reg
 use Rattle.dfs_reply.specs.Text.{text}
-use Rattle.dfs_script.specs.Script.{lines_of}
+use Rattle.dfs_script.specs.Script.{ended_lines, lines_of}
+use Rattle.deltafs.proofs.Turns.{lines_continue}
 use Rattle.dfs_session.specs.Room.{HaveRoom}
-use Rattle.dfs_session.specs.Run.{session_after, written}
+use Rattle.dfs_session.specs.Run.{output, session_after, written}
 use Rattle.dfs_session.specs.Session.{Registry, Session, default_settings, opened, step}
 use Rattle.dfs_session.proofs.Alone.{isolated}
 use Rattle.dfs_session.proofs.Rooms.{never_short, none_single}
@@ -21,7 +24,7 @@ use Rattle.deltafs.specs.Commands.{Says}
 use Rattle.deltafs.specs.Complete.{IsCompleted, JobsHaveRoom}
 use Rattle.deltafs.specs.Isolated.{AreIsolated}
 use Rattle.deltafs.specs.Refusals.{status_of}
-use Rattle.deltafs.specs.Says.{StopsShort, Untaken}
+use Rattle.deltafs.specs.Says.{StopsInto, StopsShort, StopsTaken, Untaken}
 
 -- no run of jobs that have room stops at a full log
 never_full : (old : Registry) (heard : List (List ℕ) → List ℕ) (script said : List ℕ) (files : Option Registry) → HaveRoom (opened old) (lines_of script) → StopsShort (opened old) heard script said files → ⊥
@@ -88,12 +91,6 @@ disk_unopened (reg.Damaged place) is = absurd (cc is)
 disk_unopened reg.NoMemory is = absurd (cc is)
 disk_unopened reg.Disk is = refl
 
-pub never_done : (fault : RegFault) → status_of fault ≡ Done → ⊥
-never_done reg.NotRegistry is = absurd (cc is)
-never_done (reg.Damaged place) is = absurd (cc is)
-never_done reg.NoMemory is = absurd (cc is)
-never_done reg.Disk is = absurd (cc is)
-
 pub none_by : (o : Option Command) → ((x : Command) → o ≡ Some x → ⊥) → o ≡ None
 none_by None never = refl
 none_by (Some x) never = absurd (never x refl)
@@ -104,6 +101,14 @@ no_words command old script none room = subst (λ k. JobsHaveRoom k old script) 
 
 -- ---- what each job was told
 
+-- What was said begins what the script writes.
+abbrev Begins : Registry → List ℕ → List ℕ → Type 0
+Begins old script said = (unsaid : List ℕ) × (output old script ≡ said ++ unsaid)
+
+begins_before : (old : Registry) (script said : List ℕ) (before after : List (List ℕ)) → lines_of script ≡ before ++ after → said ≡ written (opened old) before → Begins old script said
+begins_before old script said before after cut is =
+    (written (session_after (opened old) before) after, ap (written (opened old)) cut ∙ written-append (opened old) before after ∙ ap (λ (l : List ℕ). l ++ written (session_after (opened old) before) after) (sym is))
+
 first_written : (s : Session) (line : List ℕ) (after : List (List ℕ)) → written s (line ∷ after) ≡ text (step s line).reply ++ written (step s line).session after
 first_written s line after = refl
 
@@ -113,12 +118,54 @@ heard_behind s lines after line t is =
     written-append s lines (line ∷ after) ∙ ap (λ (x : Session). written s lines ++ written x (line ∷ after)) is ∙ ap (λ (l : List ℕ). written s lines ++ l) (first_written t line after)
     ∙ sym (append_assoc (written s lines) (text (step t line).reply) (written (step t line).session after))
 
-pub tells_isolated : (old : Registry) (script rest said : List ℕ) (files : Option Registry) (command : Option Command) (status : Status) → command ≡ Some Run → status ≡ Done → Says command status old script rest said files → AreIsolated old script said
-tells_isolated old script rest said files command status run done says earlier later after begin line w names op number cut is_begin begun still is_line =
-    let whole = subst (λ s. Says (Some Run) s old script rest said files) done (subst (λ k. Says k status old script rest said files) run says) in
+begins_into : (old : Registry) (script said : List ℕ) (files : Option Registry) → StopsInto (opened old) script said files → Begins old script said
+begins_into old script said files stops =
+    let s = opened old in
+    let t = session_after s stops.before in
+    let more = written (step t stops.line).session stops.after in (
+      stops.unsaid ++ more,
+      ap (written s) stops.cut
+          ∙ heard_behind s stops.before stops.after stops.line t refl
+          ∙ ap (λ (l : List ℕ). written s stops.before ++ l ++ more) stops.reply
+          ∙ ap (λ (l : List ℕ). l ++ more) (sym (append_assoc (written s stops.before) stops.front stops.unsaid))
+          ∙ append_assoc (written s stops.before ++ stops.front) stops.unsaid more
+          ∙ ap (λ (l : List ℕ). l ++ (stops.unsaid ++ more)) (sym stops.said_into),
+    )
+
+begins_taken : (old : Registry) (script rest said : List ℕ) (files : Option Registry) → StopsTaken (opened old) script rest said files → Begins old script said
+begins_taken old script rest said files stops =
+    let cut = lines_continue stops.takes.taken rest in
+    begins_before old script said (ended_lines stops.takes.taken) cut.after (ap lines_of stops.takes.whole ∙ cut.cut) stops.said_taken
+
+begins_run : (old : Registry) (script rest said : List ℕ) (files : Option Registry) (status : Status) → Says (Some Run) status old script rest said files → Begins old script said
+begins_run old script rest said files Done says = ([], sym says.said_all ∙ sym (append-nil said))
+begins_run old script rest said files Usage says = absurd says
+begins_run old script rest said files NotRegistry says = absurd says
+begins_run old script rest said files (RegistryDamaged place) says = absurd says
+begins_run old script rest said files DiskFault says = begins_before old script said says.before says.after says.cut says.said_before
+begins_run old script rest said files OutputFault says = begins_into old script said files says
+begins_run old script rest said files SourceFault says = begins_taken old script rest said files says
+begins_run old script rest said files NoMemory says = begins_before old script said says.before says.after says.cut says.said_before
+begins_run old script rest said files LogFull says = begins_before old script said says.before (says.line ∷ says.after) says.cut says.said_before
+begins_run old script rest said files ScriptTooLong says = begins_taken old script rest said files says
+begins_run old script rest said files Changed says = begins_before old script said says.before says.after says.cut says.said_before
+
+-- of what begins a text, so much of the text's front is there as is long enough
+front_said : (front more said unsaid : List ℕ) → front ++ more ≡ said ++ unsaid → length front ≤ length said → said ≡ front ++ drop (length front) said
+front_said front more said unsaid same long =
+    sym (take-append-drop (length front) said)
+    ∙ ap (λ (l : List ℕ). l ++ drop (length front) said) (sym (take-append-le (length front) said unsaid long) ∙ ap (take (length front)) (sym same) ∙ take-append_seam front more)
+
+pub tells_isolated : (old : Registry) (script rest said : List ℕ) (files : Option Registry) (command : Option Command) (status : Status) → command ≡ Some Run → Says command status old script rest said files → AreIsolated old script said
+tells_isolated old script rest said files command status run says earlier later after begin line w names op number cut long is_begin begun still is_line =
+    let lines = earlier ++ begin ∷ later in
+    let now = session_after (opened old) lines in
+    let reply = (step now line).reply in
+    let front = written (opened old) lines ++ text reply in
+    let begins = begins_run old script rest said files status (subst (λ k. Says k status old script rest said files) run says) in
     record {
-      reply = (step (session_after (opened old) (earlier ++ begin ∷ later)) line).reply;
-      more = written (step (session_after (opened old) (earlier ++ begin ∷ later)) line).session after;
-      heard = whole.said_all ∙ ap (written (opened old)) cut ∙ heard_behind (opened old) (earlier ++ begin ∷ later) after line (session_after (opened old) (earlier ++ begin ∷ later)) refl;
+      reply = reply;
+      more = drop (length front) said;
+      heard = front_said front (written (step now line).session after) said begins.0 (sym (ap (written (opened old)) cut ∙ heard_behind (opened old) lines after line now refl) ∙ begins.1) long;
       alone = isolated default_settings old earlier later begin line w names op number is_begin begun still is_line;
     }

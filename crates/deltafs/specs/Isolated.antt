@@ -1,5 +1,5 @@
 -- What a whole run has told the jobs of its script.
-use Rattle.std.specs.Prelude.{◌≡◌, ℕ, List, [], ◌∷◌, ◌++◌, Some, Ok}
+use Rattle.std.specs.Prelude.{◌≡◌, ◌≤◌, ℕ, List, [], ◌∷◌, ◌++◌, length, Some, Ok}
 use Rattle.dfs_record.specs.declared.SnapName.{SnapName}
 use Rattle.dfs_path.specs.declared.Op.{Op}
 use Rattle.dfs_script.specs.declared.JobWord.{JobWord}
@@ -20,16 +20,18 @@ pub record HearsAlone (old : Registry) (lines : List (List ℕ)) (selecting : Re
   pub heard : said ≡ written (opened old) lines ++ text reply ++ more
   pub alone : TellsAlone selecting names number ops reply
 
--- Wherever a line of the script begins a job that lives when a later line asks an operation of it, that line's reply is the last of the
--- answers that the job gets alone: by its number, by what it selected when it began, and by its own operations since, this one last.
+-- Wherever a line of the script begins a job that lives when a later line asks an operation of it, and that line's reply was said whole, it
+-- is the last of the answers that the job gets alone: by its number, by what it selected when it began, and by its own operations since.
 abbrev pub AreIsolated : Registry → List ℕ → List ℕ → Type 0
 AreIsolated old script said =
     (earlier later after : List (List ℕ)) (begin line : List ℕ) (w : JobWord) (names : List SnapName) (op : Op) (number : ℕ)
     → let before = session_after (opened old) earlier in
     let lines = earlier ++ begin ∷ later in
+    let now = session_after (opened old) lines in
     lines_of script ≡ lines ++ line ∷ after
+    → length (written (opened old) lines ++ text (step now line).reply) ≤ length said
     → meaning begin ≡ Ok (Begin w names)
     → (step before begin).reply ≡ JobReply number
-    → live_number (session_after (opened old) lines) w ≡ Some number
+    → live_number now w ≡ Some number
     → meaning line ≡ Ok (Space w op)
     → HearsAlone old lines before.registry names number (ops_for w later ++ op ∷ []) said

@@ -144,6 +144,19 @@ fn a_folder_that_is_none_is_a_fault(rt: HostRuntime) -> Result<(), Fail> {
     Ok(())
 }
 
+// Places that no file has.
+#[test]
+fn a_call_that_the_system_refuses_is_a_fault(rt: HostRuntime) -> Result<(), Fail> {
+    begin(&rt, "folder_of_refusals")?;
+    let mut host = FolderHost::new(rt.alloc(), rt, io::sink(), "folder_of_refusals")?;
+    assert_eq!(rt; host.write_at(1, 0, b"x"), Ok(()));
+    assert_eq!(rt; host.write_at(1, (1 << 63) - 1, b"x"), Err(Failed));
+    assert_eq!(rt; host.cut(1, u64::MAX), Err(Failed));
+    assert_eq!(rt; host.len(1), Ok(1));
+    fs::remove_dir_all(&rt, "folder_of_refusals")?;
+    Ok(())
+}
+
 // A stream that gives `ab`, fails, gives `c` and ends; what is written to it gets lost at the flush.
 #[derive(Drop)]
 struct Worn {

@@ -1,5 +1,5 @@
 -- The last part of a plan: one layer stands in the place of all that it covered.
-use Rattle.std.proofs.Common.{◌≡◌, ◌∙◌, ◌≤◌, ◌+◌, ◌*◌, ℕ, zero, suc, Bool, true, false, cond, nat_lt, List, [], ◌∷◌, ◌++◌, length, map, take, drop, refl, sym, ap, subst, arith, append-nil, append_assoc, length-append}
+use Rattle.std.proofs.Common.{◌≡◌, ◌∙◌, ◌≤◌, ◌+◌, ◌-◌, ◌*◌, ℕ, zero, suc, Bool, true, false, cond, nat_lt, List, [], ◌∷◌, ◌++◌, length, map, take, drop, refl, sym, ap, subst, arith, append-nil, append_assoc, length-append}
 use Rattle.std.specs.Prelude.{Some, None, IsFalse, flat_map, fold}
 use Rattle.std.specs.List.{AllByRecursion, AllZip, sum_by}
 use Rattle.std.specs.declared.cmp.Ordering.{Ordering}
@@ -24,16 +24,16 @@ use Rattle.dfs_fence.specs.declared.fence.Fence.{Fence}
 use Rattle.dfs_log.specs.Logs.{LogState, LogStands}
 use Rattle.dfs_ops.specs.declared.Ids.{Ids}
 use Rattle.dfs_ops.specs.Op.{AreIds}
-use Rattle.dfs_ops.specs.Within.{IsWithin}
+use Rattle.dfs_ops.specs.Within.{IsRecordWithin, IsWithin}
 use Rattle.dfs_path.specs.declared.Scope.{Scope}
 use Rattle.dfs_path.specs.declared.Scope.TheVariants.{Own, All}
 use Rattle.dfs_change.specs.declared.change.Change.{Change}
-use Rattle.dfs_change.specs.Identities.{AreFit as AreOfJob, FitsJob}
+use Rattle.dfs_change.specs.Identities.{FitsJob}
 use Rattle.dfs_table.specs.declared.run.Run.{Run}
 use Rattle.dfs_table.specs.declared.table.Table.{Table}
 use Rattle.dfs_table.specs.Stored.{IsBlockOf, IsStored, IsTableOf, records_at, records_by, run_records}
 use Rattle.dfs_table.specs.Writer.{AreIn}
-use Rattle.dfs_table.proofs.Stays.{all_append}
+use Rattle.dfs_table.proofs.Stays.{all_append, all_weaker}
 use Rattle.dfs_compact.specs.Parts.{count_all, tables_of}
 use Rattle.dfs_view.specs.Layers.{AreStored, LiesIn, own_runs, run_count, selected}
 use Rattle.dfs_view.specs.Lists.{joined}
@@ -43,7 +43,8 @@ use Rattle.dfs_job.specs.declared.job.Job.{Job as LiveJob}
 use Rattle.dfs_job.specs.declared.planning.UnderWay.{UnderWay}
 use Rattle.dfs_job.specs.Job.{Job, Plan, basis_covered, basis_left, covered_changes, covered_records, join, namespace_of, placed}
 use Rattle.dfs_job.specs.Parted.{placed_run}
-use Rattle.dfs_job.specs.Stands.{AreSettings, IsEarlier, IsFair, IsStoredFor, JobIsFit, JobStands, PlansAreFit, PlansStand, basis_count, basis_runs, left_changes, merged_count, own_count, under_way}
+use Rattle.dfs_job.specs.Stands.{AreSettings, IsEarlier, IsFair, IsOfEarlier, IsStoredFor, JobIsFit, JobStands, PlansAreFit, PlansStand, basis_count, basis_runs, left_changes, merged_count, own_count, under_way}
+use Rattle.dfs_job.proofs.Fair.{fits_within}
 use Rattle.dfs_job.proofs.Layers.{deltas_from}
 use Rattle.dfs_job.proofs.Merges.{plan_fit, plan_stand}
 use Rattle.dfs_job.proofs.Plans.{counted-append, counted_runs}
@@ -153,15 +154,17 @@ join_sees p j = ap (replay (basis_left p.scope j.basis)) (joined_join p j) ∙ b
 
 -- ---- whose records they are
 
-basis_records : (job : ℕ) (ds : List Delta) → AllByRecursion (AreOfJob job) ds → AllByRecursion (FitsJob job) (flat_map records_of ds)
-basis_records job [] fit = tt
-basis_records job (d ∷ ds) fit = all_append (FitsJob job) (records_of d) (flat_map records_of ds) fit.0 (basis_records job ds fit.1)
+basis_records : (ids : Ids) (ds : List Delta) → 1 ≤ ids.job → AllByRecursion (IsOfEarlier ids.job) ds → AllByRecursion (IsRecordWithin ids) (flat_map records_of ds)
+basis_records ids [] some fit = tt
+basis_records ids (d ∷ ds) some fit =
+    all_append (IsRecordWithin ids) (records_of d) (flat_map records_of ds) (all_weaker (FitsJob (ids.job - 1)) (IsRecordWithin ids) (records_of d) (λ r fits. fits_within ids (ids.job - 1) r (omega (arith, some)) fits) fit.0)
+    (basis_records ids ds some fit.1)
 
-scope_records : (job : ℕ) (scope : Scope) (ds : List Delta) → AllByRecursion (AreOfJob job) ds → AllByRecursion (FitsJob job) (flat_map records_of (basis_covered scope ds))
-scope_records job Own ds fit = tt
-scope_records job All ds fit = basis_records job ds fit
+scope_records : (ids : Ids) (scope : Scope) (ds : List Delta) → 1 ≤ ids.job → AllByRecursion (IsOfEarlier ids.job) ds → AllByRecursion (IsRecordWithin ids) (flat_map records_of (basis_covered scope ds))
+scope_records ids Own ds some fit = tt
+scope_records ids All ds some fit = basis_records ids ds some fit
 
-scope_left : (job : ℕ) (scope : Scope) (ds : List Delta) → AllByRecursion (AreOfJob job) ds → AllByRecursion (AreOfJob job) (basis_left scope ds)
+scope_left : (job : ℕ) (scope : Scope) (ds : List Delta) → AllByRecursion (IsOfEarlier job) ds → AllByRecursion (IsOfEarlier job) (basis_left scope ds)
 scope_left job Own ds fit = fit
 scope_left job All ds fit = tt
 
@@ -186,11 +189,11 @@ layers_few Own n ds ls = omega (arith, own_few n ls)
 layers_few All n [] ls = omega (arith, own_few n ls)
 layers_few All n (d ∷ ds) ls = omega (arith, placed_few (flat_map records_of (d ∷ ds) ++ flat_map (λ (x : List Record). x) (take n ls)), dropped_few n ls)
 
-pub join_fair : (p : Plan) (j : Job) → IsFair j → IsFair (join p j)
-join_fair p j fair = record {
+pub join_fair : (p : Plan) (j : Job) → 1 ≤ j.ids.job → IsFair j → IsFair (join p j)
+join_fair p j some fair = record {
   seen = subst (λ m. IsWithin j.ids m) (sym (join_sees p j)) fair.seen;
-  own = subst (AllByRecursion (FitsJob j.ids.job)) (sym (joined_join p j))
-      (all_append (FitsJob j.ids.job) (flat_map records_of (basis_covered p.scope j.basis)) (joined j.layers) (scope_records j.ids.job p.scope j.basis fair.basis) fair.own);
+  own = subst (AllByRecursion (IsRecordWithin j.ids)) (sym (joined_join p j))
+      (all_append (IsRecordWithin j.ids) (flat_map records_of (basis_covered p.scope j.basis)) (joined j.layers) (scope_records j.ids p.scope j.basis some fair.basis) fair.own);
   basis = scope_left j.ids.job p.scope j.basis fair.basis;
   few = omega (arith, fair.few, layers_few p.scope p.covered j.basis j.layers.closed, length-append (placed (covered_records p j)) (drop p.covered j.layers.closed));
 }
@@ -317,7 +320,7 @@ module _ (old new : LiveJob) (u : UnderWay) (run : Run) (fit : JobIsFit old) (un
         basis = subst (λ cs. AllZip (IsStoredFor host) cs (basis_left p.scope j.basis)) (sym basis)
             (subst (λ s. AllZip (IsStoredFor host) (left_changes u.scope (selected old.layers)) (basis_left s j.basis)) (sym held.scope) (zip_left host u.scope (selected old.layers) j.basis stands.basis));
         plan = subst (λ o. PlansStand host new.layers.log.file (join p j) o None) (sym over) tt;
-        fair = join_fair p j stands.fair;
+        fair = join_fair p j (omega (arith, fit.ids.job, ap (λ (n : Ids). n.job) stands.ids)) stands.fair;
         account = record {
           few = omega (arith, stands.account.few, few_after few, ap (λ (b : Buffered). b.made) buffer);
           merged = omega (arith, ap merged_count over);

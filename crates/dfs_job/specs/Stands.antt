@@ -1,5 +1,5 @@
 -- What a job in memory and the files of a host stand for, and what is so of every job.
-use Rattle.std.specs.Prelude.{◌≡◌, ◌≤◌, ◌<◌, ◌+◌, ◌*◌, ◌++◌, ℕ, Bool, nat_lt, List, [], length, map, slice_get, take, is_some, Option, Some, None, IsSomeAnd, IsFalse}
+use Rattle.std.specs.Prelude.{◌≡◌, ◌≤◌, ◌<◌, ◌+◌, ◌-◌, ◌*◌, ◌++◌, ℕ, Bool, nat_lt, List, [], length, map, slice_get, take, is_some, Option, Some, None, IsSomeAnd, IsFalse}
 use Rattle.std.specs.List.{AllByRecursion, AllZip, sum_by}
 use Rattle.dfs_host.specs.Host.{HostState, Told, bytes_of}
 use Rattle.dfs_record.specs.Delta.{Delta, delta}
@@ -14,9 +14,9 @@ use Rattle.dfs_plan.specs.Parts.{boundary}
 use Rattle.dfs_compact.specs.Compaction.{AreMerged, CompactionState}
 use Rattle.dfs_compact.specs.Parts.{count_all, merged_part, tables_of}
 use Rattle.dfs_change.specs.declared.change.Change.{Change}
-use Rattle.dfs_change.specs.Identities.{AreFit as AreOfJob, FitsJob}
+use Rattle.dfs_change.specs.Identities.{AreFit as AreOfJob}
 use Rattle.dfs_ops.specs.Op.{AreIds}
-use Rattle.dfs_ops.specs.Within.{IsWithin}
+use Rattle.dfs_ops.specs.Within.{IsRecordWithin, IsWithin}
 use Rattle.dfs_view.specs.declared.layers.Layers.{Layers}
 use Rattle.dfs_view.specs.Layers.{AreFit, LiesIn, Stand, StandFor, own_runs, run_count, selected}
 use Rattle.dfs_view.specs.Lists.{joined}
@@ -52,12 +52,16 @@ pub record IsSelectable (host : HostState) (c : Change) : Type 0 where
 abbrev pub IsStoredFor : HostState → Change → Delta → Type 0
 IsStoredFor host c d = IsStored (bytes_of host c.listed.job) c.run.value d
 
--- Its basis has identities of earlier jobs alone, its records none of a later job, and of its own those that it has made. No more
+-- the change set has identities of earlier jobs alone
+abbrev pub IsOfEarlier : ℕ → Delta → Type 0
+IsOfEarlier number d = AreOfJob (number - 1) d
+
+-- What it sees and its records have identities of earlier jobs and those that it has made, its basis those of earlier jobs alone. No more
 -- layers are there than records were made, but for one that a plan made of the basis.
 pub record IsFair (j : Job) : Type 0 where
   pub seen : IsWithin j.ids (namespace_of j)
-  pub own : AllByRecursion (FitsJob j.ids.job) (joined j.layers)
-  pub basis : AllByRecursion (AreOfJob j.ids.job) j.basis
+  pub own : AllByRecursion (IsRecordWithin j.ids) (joined j.layers)
+  pub basis : AllByRecursion (IsOfEarlier j.ids.job) j.basis
   pub few : length j.layers.closed + length j.layers.open_ + length (take 1 j.basis) ≤ j.ids.made + 1
 
 -- ---- plans

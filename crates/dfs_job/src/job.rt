@@ -34,10 +34,10 @@ pub struct Stats {
 }
 
 impl Job {
-    ghost use Rattle.std.specs.Prelude.{◌≡◌, ◌≤◌, ◌<◌, ◌↔◌, List, map, IsFalse, IsTrue, IfOk, OnOk, OnErr, IsErrOf};
+    ghost use Rattle.std.specs.Prelude.{◌≡◌, ◌≤◌, ◌<◌, ◌+◌, ◌*◌, ◌↔◌, List, length, map, take, IsFalse, IsTrue, IfOk, OnOk, OnErr, IsErrOf};
     ghost use Rattle.std.specs.List.{AllByRecursion, AllZip};
     ghost use Rattle.dfs_host.specs.Fault.{HasFaultCause};
-    ghost use Rattle.dfs_host.specs.Host.{HostState, Told, Only, HasDiskCause};
+    ghost use Rattle.dfs_host.specs.Host.{HostState, Told, Only, HasDiskCause, bytes_of};
     ghost use Rattle.dfs_ops.specs.Applied.{IsReply};
     ghost use Rattle.dfs_ops.specs.Op.{next_id};
     ghost use Rattle.dfs_ops.specs.Within.{HasNothingIn};
@@ -107,6 +107,10 @@ impl Job {
         // `LogFull` exactly where the log refused a piece, and only where it is too short for what the job selected and made.
         ensures full { IsErrOf result Fault.LogFull ↔ (0 < self.new.layers.log.refused) }
         ensures short { (j : PlainJob) → Told (H.state host.old) (JobStands (H.state host.old) self.old j → IsErrOf result Fault.LogFull → j.settings.log_bytes < need (after j (does j op.now))) }
+        // A record of the open layer or of the operation costs the log at most 1,100 bytes, a refused piece counted, which did not fit.
+        ensures growth { self.new.layers.log.len + self.new.layers.log.refused ≤ self.old.layers.log.len + 1100 * (self.old.layers.buffer.made + 2) }
+        ensures past { 0 < self.new.layers.log.refused → self.old.layers.log.limit < self.new.layers.log.len + self.new.layers.log.refused }
+        ensures before { Told (H.state host.old) (OnOk result (take (length (bytes_of (H.state host.old) self.old.layers.log.file)) (bytes_of (H.state host.new) self.old.layers.log.file) ≡ bytes_of (H.state host.old) self.old.layers.log.file)) }
         ensures only { Only self.old.ids.job (H.state host.old) (H.state host.new) }
         ensures cause { HasFaultCause (H.state host.old) (H.state host.new) result }
         ensures spent { OnErr result (IsTrue self.new.spent) }
@@ -129,6 +133,10 @@ impl Job {
         ensures plan { (self.new.plan ≡ self.old.plan) × (self.new.plans ≡ self.old.plans) }
         ensures full { IsErrOf result Fault.LogFull ↔ (0 < self.new.layers.log.refused) }
         ensures short { (j : PlainJob) → Told (H.state host.old) (JobStands (H.state host.old) self.old j → IsErrOf result Fault.LogFull → j.settings.log_bytes < need j) }
+        // A record of the open layer costs the log at most 1,100 bytes, a refused piece counted, which did not fit.
+        ensures growth { self.new.layers.log.len + self.new.layers.log.refused ≤ self.old.layers.log.len + 1100 * self.old.layers.buffer.made }
+        ensures past { 0 < self.new.layers.log.refused → self.old.layers.log.limit < self.new.layers.log.len + self.new.layers.log.refused }
+        ensures before { Told (H.state host.old) (OnOk result (take (length (bytes_of (H.state host.old) self.old.layers.log.file)) (bytes_of (H.state host.new) self.old.layers.log.file) ≡ bytes_of (H.state host.old) self.old.layers.log.file)) }
         ensures only { Only self.old.ids.job (H.state host.old) (H.state host.new) }
         ensures cause { HasFaultCause (H.state host.old) (H.state host.new) result }
         ensures reads { (H.state host.new).reads ≡ (H.state host.old).reads }

@@ -29,12 +29,12 @@ pub struct UnderWay {
 }
 
 impl Job {
-    ghost use Rattle.std.specs.Prelude.{◌≡◌, ◌≤◌, ◌<◌, ◌⊎◌, ◌↔◌, [], length, None, IsSome, IsFalse, IsTrue, IfOk, IfErr, IfSome, OnOk, OnErr, IsErrOf};
+    ghost use Rattle.std.specs.Prelude.{◌≡◌, ◌≤◌, ◌<◌, ◌+◌, ◌*◌, ◌⊎◌, ◌↔◌, [], length, None, IsSome, IsFalse, IsTrue, IfOk, IfErr, IfSome, OnOk, OnErr, IsErrOf};
     ghost use Rattle.dfs_host.specs.Fault.{HasFaultCause};
     ghost use Rattle.dfs_host.specs.Host.{HostState, Told, Only};
     ghost use Rattle.dfs_view.specs.Layers.{Stand};
     ghost use Rattle.dfs_job.specs.Job.{Job as PlainJob, after_part, after_plan, joined_as, merged_as, need, part_answer, plan_answer, with_plan};
-    ghost use Rattle.dfs_job.specs.Stands.{IsWholePlan, JobIsFit, JobIsSound, JobStands, merges_too_many};
+    ghost use Rattle.dfs_job.specs.Stands.{IsWholePlan, JobIsFit, JobIsSound, JobStands, merges_too_many, plan_count};
 
     /// Begins a plan over the closed layers, with scope all over the selected change sets as well. It closes the open layer. Without
     /// a number of parts it has as many as the settings say. After a fault the job is spent.
@@ -56,6 +56,9 @@ impl Job {
         ensures basis { self.new.layers.basis.items ≡ self.old.layers.basis.items }
         ensures full { IsErrOf result Fault.LogFull ↔ (0 < self.new.layers.log.refused) }
         ensures short { (j : PlainJob) → Told (H.state host.old) (JobStands (H.state host.old) self.old j → IsErrOf result Fault.LogFull → j.settings.log_bytes < need (after_plan j scope parts)) }
+        // A record of the open layer costs the log at most 1,100 bytes, a refused piece counted, which did not fit.
+        ensures growth { self.new.layers.log.len + self.new.layers.log.refused ≤ self.old.layers.log.len + 1100 * self.old.layers.buffer.made }
+        ensures past { 0 < self.new.layers.log.refused → self.old.layers.log.limit < self.new.layers.log.len + self.new.layers.log.refused }
         ensures only { Only self.old.ids.job (H.state host.old) (H.state host.new) }
         ensures cause { HasFaultCause (H.state host.old) (H.state host.new) result }
         ensures reads { (H.state host.new).reads ≡ (H.state host.old).reads }
@@ -128,6 +131,9 @@ impl Job {
         ensures full { IsErrOf result Fault.LogFull → (0 < self.new.layers.log.refused) ⊎ IsTrue (merges_too_many self.old) }
         ensures refuses { 0 < self.new.layers.log.refused → IsErrOf result Fault.LogFull }
         ensures short { (j : PlainJob) → Told (H.state host.old) (JobStands (H.state host.old) self.old j → IsErrOf result Fault.LogFull → j.settings.log_bytes < need j) }
+        // A record of the plan's sources costs the log at most 1,100 bytes, a refused piece counted, which did not fit.
+        ensures growth { self.new.layers.log.len + self.new.layers.log.refused ≤ self.old.layers.log.len + 1100 * plan_count self.old.plan }
+        ensures past { 0 < self.new.layers.log.refused → self.old.layers.log.limit < self.new.layers.log.len + self.new.layers.log.refused }
         ensures only { Only self.old.ids.job (H.state host.old) (H.state host.new) }
         ensures cause { HasFaultCause (H.state host.old) (H.state host.new) result }
         ensures reads { (H.state host.new).reads ≡ (H.state host.old).reads }
@@ -161,6 +167,9 @@ impl Job {
         ensures full { IsErrOf result Fault.LogFull → (0 < self.new.layers.log.refused) ⊎ IsTrue (merges_too_many self.old) }
         ensures refuses { 0 < self.new.layers.log.refused → IsErrOf result Fault.LogFull }
         ensures short { (j : PlainJob) → Told (H.state host.old) (JobStands (H.state host.old) self.old j → IsErrOf result Fault.LogFull → j.settings.log_bytes < need j) }
+        // A record of the plan's sources costs the log at most 1,100 bytes, a refused piece counted, which did not fit.
+        ensures growth { self.new.layers.log.len + self.new.layers.log.refused ≤ self.old.layers.log.len + 1100 * plan_count self.old.plan }
+        ensures past { 0 < self.new.layers.log.refused → self.old.layers.log.limit < self.new.layers.log.len + self.new.layers.log.refused }
         ensures only { Only self.old.ids.job (H.state host.old) (H.state host.new) }
         ensures cause { HasFaultCause (H.state host.old) (H.state host.new) result }
         ensures reads { (H.state host.new).reads ≡ (H.state host.old).reads }

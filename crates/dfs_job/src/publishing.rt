@@ -34,7 +34,7 @@ use std::alloc::Global;
 use std::rc::Rc;
 
 impl Job {
-    ghost use Rattle.std.specs.Prelude.{◌≡◌, ◌<◌, ◌⊎◌, ℕ, List, IsTrue, IfOk, OnOk, IsErrOf, Some};
+    ghost use Rattle.std.specs.Prelude.{◌≡◌, ◌≤◌, ◌<◌, ◌+◌, ◌*◌, ◌⊎◌, ℕ, List, IsTrue, IfOk, OnOk, IsErrOf, Some};
     ghost use Rattle.dfs_host.specs.Disk.{IsSettled};
     ghost use Rattle.dfs_host.specs.Fault.{HasFaultCause};
     ghost use Rattle.dfs_host.specs.Host.{Told, Only, bytes_of};
@@ -42,7 +42,7 @@ impl Job {
     ghost use Rattle.dfs_change.specs.Meant.{log_meaning};
     ghost use Rattle.dfs_change.specs.Sealing.{entry_of};
     ghost use Rattle.dfs_job.specs.Job.{Job as PlainJob, need, own_changes};
-    ghost use Rattle.dfs_job.specs.Stands.{JobIsSound, JobStands, publishes_too_many};
+    ghost use Rattle.dfs_job.specs.Stands.{JobIsSound, JobStands, own_count, publishes_too_many};
 
     /// Seals all layers of the job as one run in its log: the only one as it stands, several ones merged in as many parts as the
     /// settings say, none as a run without a table. What it selected is no part of that, and a plan under way is given up. The job is
@@ -62,6 +62,9 @@ impl Job {
         ensures full { IsErrOf result Fault.LogFull → (0 < self.new.layers.log.refused) ⊎ IsTrue (publishes_too_many self.old) }
         ensures refuses { 0 < self.new.layers.log.refused → IsErrOf result Fault.LogFull }
         ensures short { (j : PlainJob) → Told (H.state host.old) (JobStands (H.state host.old) self.old j → IsErrOf result Fault.LogFull → j.settings.log_bytes < need j) }
+        // Beside that a merged record costs at most 1,100 bytes, a table 16 in the manifest, and a refused piece is counted, which did not fit.
+        ensures growth { Told (H.state host.old) (self.new.layers.log.len + self.new.layers.log.refused ≤ self.old.layers.log.len + (1100 * self.old.layers.buffer.made + (1116 * (own_count self.old + self.old.layers.buffer.made) + 4))) }
+        ensures past { 0 < self.new.layers.log.refused → self.old.layers.log.limit < self.new.layers.log.len + self.new.layers.log.refused }
         ensures only { Only self.old.ids.job (H.state host.old) (H.state host.new) }
         ensures cause { HasFaultCause (H.state host.old) (H.state host.new) result }
         ensures reads { (H.state host.new).reads ≡ (H.state host.old).reads }

@@ -1,5 +1,5 @@
 -- Lines of a live job: an operation, a flush, and its end.
-use Rattle.std.proofs.Common.{inl, inr, ◌≡◌, ◌≢◌, ◌∙◌, ◌≤◌, ◌<◌, ◌⊎◌, ℕ, zero, suc, Bool, true, false, [], map, Option, Some, None, Result, Err, refl, sym, ap, subst, arith}
+use Rattle.std.proofs.Common.{inl, inr, ◌≡◌, ◌≢◌, ◌∙◌, ◌≤◌, ◌<◌, ◌+◌, ◌⊎◌, ℕ, zero, suc, Bool, true, false, [], map, Option, Some, None, Result, Err, refl, sym, ap, subst, arith}
 use Rattle.std.proofs.lemmas.Bool.{leb-true, lt-ltb}
 use mathlib.Core.Bool.{true≢false}
 use Rattle.std.specs.Prelude.{◌&&◌, IfOk, IfNone, IfSome, OnOk, IsErrOf, IsTrue, is_some, nat_le, nat_lt}
@@ -21,6 +21,7 @@ use Rattle.dfs_path.specs.declared.Scope.{Scope}
 use Rattle.dfs_script.specs.Scopes.{is_parts}
 use Rattle.dfs_script.specs.declared.JobWord.{JobWord}
 use Rattle.dfs_view.specs.Layers.{selected}
+use Rattle.dfs_job.specs.declared.settings.Settings.{Settings}
 use Rattle.dfs_job.specs.declared.job.Job.{Job as LiveJob}
 use Rattle.dfs_job.specs.declared.answers.Planned.{Planned}
 use Rattle.dfs_job.specs.declared.answers.Planned.TheVariants.{Made, Busy, Full}
@@ -34,9 +35,9 @@ use Rattle.dfs_session.specs.Kept.{IsOwn}
 use Rattle.dfs_session.specs.Session.{Registry, Session, Step, live_job, of_live, ends, word_cmp}
 use Rattle.dfs_session.specs.Sound.{AreApart, IsEntry, IsListed, IsLive, IsSound, NoneHas, PlainOf, jobs_of, listed_in, live_in, number_of}
 use Rattle.dfs_session.specs.Stands.{EntryStands, LeavesValue, Stands}
-use Rattle.dfs_session.specs.Worked.{AreNamed, IsFullWhere, IsShort, IsWorked, Work, has_refused, job_is, plain, with_plan_made}
+use Rattle.dfs_session.specs.Worked.{AreNamed, IsFullWhere, IsPast, IsShort, IsWorked, Work, has_refused, job_is, plain, with_plan_made}
 use Rattle.dfs_session.proofs.Begun.{HasEnded, each_ended, kept_still, still_none}
-use Rattle.dfs_session.proofs.Faults.{unrefused, each_unrefused, sound_refused, not_true}
+use Rattle.dfs_session.proofs.Faults.{unrefused, each_unrefused, none_past, sound_refused, not_true}
 use Rattle.dfs_session.proofs.Handed.{fault_or, handed_cause}
 use Rattle.dfs_session.proofs.Images.{own_images, read_images}
 use Rattle.dfs_session.proofs.Jobs.{Live, FoundBoth, all_set, all_found, all_remove, any_set, apart_set, apart_remove, both_found, none_unremoved, none_unset, removed_apart, zip_remove}
@@ -116,6 +117,10 @@ module _ (before after : HostState) (session : LiveSession) (word : JobWord) (li
   pub was_sound : JobIsSound before live
   was_sound = record { fit = was_live.fit; stands = λ tells. all_found (λ x. StandsForOne before x) test (jobs_of session) live (sound.jobs tells) found }
 
+  -- what the call on the job says of a piece that was refused, the session says of the job
+  pub past_of : (new : LiveJob) → new.settings ≡ live.settings → (0 < new.layers.log.refused → live.layers.log.limit < new.layers.log.len + new.layers.log.refused) → IsPast new
+  past_of new same past = λ some. omega (arith, past some, was_live.fit.log_bytes, ap (λ (t : Settings). t.log_bytes) same)
+
   module _ (only : Only live.ids.job before after) where
     pub own_keeps : IsTrue before.tells → (m : ℕ) → m ≢ live.ids.job → Keeps before after m
     own_keeps tells m other = only_keeps only tells m other
@@ -152,8 +157,8 @@ module _ (before after : HostState) (session : LiveSession) (word : JobWord) (li
       now_refused some = ap (λ (es : Live). list_any (λ e. nat_lt 0 e.1.layers.log.refused) es) set ∙ any_set test (jobs_of session) live new found (lt-ltb 0 new.layers.log.refused some)
 
       -- `LogFull` where the job's log refused a piece, and else only where a run of it may need too many tables
-      pub full_with : {T : Type 0} (result : Result T Fault) (many : Bool) → (IsErrOf result LogFull → (0 < new.layers.log.refused) ⊎ IsTrue many) → (0 < new.layers.log.refused → IsErrOf result LogFull) → IsFullWhere result many changed
-      full_with result many only refused = record { only = λ is. elim (only is) [ inl holds ↦ inl (now_refused holds) | inr passes ↦ inr passes ]; refused = λ holds. refused (some holds) }
+      pub full_with : {T : Type 0} (result : Result T Fault) (many : Bool) → (IsErrOf result LogFull → (0 < new.layers.log.refused) ⊎ IsTrue many) → IsPast new → (0 < new.layers.log.refused → IsErrOf result LogFull) → IsFullWhere result many changed
+      full_with result many only past refused = record { past = subst (λ (es : Live). AllByRecursion (λ e. IsPast e.1) es) (sym set) (all_set IsPast test (jobs_of session) new past (none_past (jobs_of session) (sound_refused session sound.memory))); only = λ is. elim (only is) [ inl holds ↦ inl (now_refused holds) | inr passes ↦ inr passes ]; refused = λ holds. refused (some holds) }
         where
           some : IsTrue (has_refused changed) → 0 < new.layers.log.refused
           some holds = by new.layers.log.refused refl
@@ -210,9 +215,9 @@ module _ (before after : HostState) (session : LiveSession) (word : JobWord) (li
       }
 
       -- a call on the job that met a fault
-      pub fault_worked : {T : Type 0} (work : Work) (fault : Fault) → HasFaultCause {T = T} before after (Err fault) → (IsErrOf {T = T} (Err fault) LogFull → (0 < new.layers.log.refused) ⊎ IsTrue (work.many session)) → (0 < new.layers.log.refused → IsErrOf {T = T} (Err fault) LogFull)
+      pub fault_worked : {T : Type 0} (work : Work) (fault : Fault) → HasFaultCause {T = T} before after (Err fault) → (IsErrOf {T = T} (Err fault) LogFull → (0 < new.layers.log.refused) ⊎ IsTrue (work.many session)) → IsPast new → (0 < new.layers.log.refused → IsErrOf {T = T} (Err fault) LogFull)
           → ((s : Session) → IsTrue before.tells → Stands before session s → fault ≡ LogFull → IsShort (work.job s)) → IsWorked work before after session changed (Err fault)
-      fault_worked {T} work fault cause full refused short = record {
+      fault_worked {T} work fault cause full past refused short = record {
         sound = tt;
         settings = tt;
         reply = λ s tells stands. tt;
@@ -221,7 +226,7 @@ module _ (before after : HostState) (session : LiveSession) (word : JobWord) (li
         images = λ s tells stands. own_job_images s (work.step s).session.registry tells stands;
         silent = silent_only only;
         cause = handed_cause fault (none_yet before) cause;
-        full = full_with (Err fault) (work.many session) (λ is. full (ap Err (ap fault_or is))) (λ some. ap Err (ap (fault_or {T = T}) (refused some)));
+        full = full_with (Err fault) (work.many session) (λ is. full (ap Err (ap fault_or is))) past (λ some. ap Err (ap (fault_or {T = T}) (refused some)));
         short = λ s tells stands is. short s tells stands (ap fault_or is);
         reads = λ quiet. tt;
         names = tt;

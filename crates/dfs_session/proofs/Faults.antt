@@ -1,16 +1,17 @@
 -- Which logs have refused a piece.
 use Rattle.std.proofs.Common.{◌≡◌, ◌∙◌, ℕ, Bool, true, false, List, [], ◌∷◌, refl, sym, ap, subst}
-use Rattle.std.specs.Prelude.{nat_lt, IsTrue, Result, Ok, Err, IsErrOf, IfErr}
+use Rattle.std.specs.Prelude.{◌||◌, nat_lt, IsTrue, Result, Ok, Err, IsErrOf, IfErr}
 use Rattle.dfs_host.specs.declared.fault.Fault.{Fault}
 use Rattle.dfs_host.specs.declared.fault.Fault.TheVariants.{NoMemory, LogFull}
 use Rattle.std.specs.List.{AllByRecursion, list_any}
-use Rattle.std.proofs.lemmas.Bool.{or_from}
+use Rattle.std.proofs.lemmas.Bool.{lt-ltb, or_from}
+use mathlib.Core.Bool.{true≢false}
 use Rattle.dfs_registry.specs.declared.listed.Listed.{Listed}
 use Rattle.dfs_script.specs.declared.JobWord.{JobWord}
 use Rattle.dfs_job.specs.declared.job.Job.{Job as LiveJob}
 use Rattle.dfs_session.specs.declared.session.Session.{Session as LiveSession}
 use Rattle.dfs_session.specs.Sound.{IsLive, IsSoundInMemory, jobs_of, listed_in}
-use Rattle.dfs_session.specs.Worked.{IsFullWhere, has_refused}
+use Rattle.dfs_session.specs.Worked.{IsFullWhere, IsPast, has_refused}
 
 pub unrefused : (es : List (JobWord × LiveJob)) → AllByRecursion (λ e. e.1.layers.log.refused ≡ 0) es → list_any (λ e. nat_lt 0 e.1.layers.log.refused) es ≡ false
 unrefused [] all = refl
@@ -40,6 +41,17 @@ pub memory_no_log_full : {T : Type 0} (result : Result T Fault) → IfErr result
 memory_no_log_full (Ok x) memory is = subst IsNoLogFull is tt
 memory_no_log_full (Err fault) memory is = subst IsNoLogFull (ap (λ (f : Fault). Err f) (sym memory) ∙ is) tt
 
+neither : (a b : Bool) → (a || b) ≡ false → (a ≡ false) × (b ≡ false)
+neither true b e = absurd (true≢false e)
+neither false b e = (refl, e)
+
+-- where no log refused a piece, none refused one that fits
+pub none_past : (es : List (JobWord × LiveJob)) → list_any (λ e. nat_lt 0 e.1.layers.log.refused) es ≡ false → AllByRecursion (λ e. IsPast e.1) es
+none_past [] none = tt
+none_past (e ∷ es) none =
+    let parts = neither (nat_lt 0 e.1.layers.log.refused) (list_any (λ f. nat_lt 0 f.1.layers.log.refused) es) none in
+    (λ some. absurd (true≢false (sym (lt-ltb 0 e.1.layers.log.refused some) ∙ parts.0)), none_past es parts.1)
+
 -- where no log refused a piece, no answer is that a log is full
 pub full_by : {T : Type 0} (result : Result T Fault) (many : Bool) (session : LiveSession) → (IsErrOf result LogFull → ⊥) → has_refused session ≡ false → IsFullWhere result many session
-full_by result many session never none = record { only = λ is. absurd (never is); refused = λ holds. absurd (not_true (has_refused session) none holds) }
+full_by result many session never none = record { only = λ is. absurd (never is); past = none_past (jobs_of session) none; refused = λ holds. absurd (not_true (has_refused session) none holds) }

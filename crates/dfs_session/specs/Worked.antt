@@ -1,5 +1,5 @@
 -- What the working of a line does.
-use Rattle.std.specs.Prelude.{◌≡◌, ◌≤◌, ◌<◌, ◌⊎◌, ℕ, Bool, false, nat_lt, IsTrue, List, map, Option, Some, None, Result, Ok, Err, OnOk, IfOk, IsErrOf}
+use Rattle.std.specs.Prelude.{◌≡◌, ◌≤◌, ◌<◌, ◌+◌, ◌⊎◌, ℕ, Bool, false, nat_lt, IsTrue, List, map, Option, Some, None, Result, Ok, Err, OnOk, IfOk, IsErrOf}
 use Rattle.std.specs.List.{AllByRecursion, list_all, list_any}
 use Rattle.std.specs.Global.{Vec}
 use Rattle.dfs_host.specs.Fault.{HasFaultCause}
@@ -51,9 +51,14 @@ abbrev pub job_is : (LiveJob → Bool) → Option LiveJob → Bool
 job_is test None = false
 job_is test (Some job) = test job
 
--- `LogFull` where a log refused a piece, and else only where a run may need too many tables.
+-- a piece that the job's log refused did not fit into the bytes that the settings give it
+abbrev pub IsPast : LiveJob → Type 0
+IsPast job = 0 < job.layers.log.refused → job.settings.log_bytes < job.layers.log.len + job.layers.log.refused
+
+-- `LogFull` where a log refused a piece that did not fit, and else only where a run may need too many tables.
 pub record IsFullWhere {T : Type 0} (result : Result T Fault) (many : Bool) (new : LiveSession) : Type 0 where
   pub only : IsErrOf result LogFull → IsTrue (has_refused new) ⊎ IsTrue many
+  pub past : AllByRecursion (λ e. IsPast e.1) (jobs_of new)
   pub refused : IsTrue (has_refused new) → IsErrOf result LogFull
 
 -- ---- what a line works

@@ -54,7 +54,7 @@ pub fn text_of(alloc: Global, reply: &Reply) -> Result<Vec<u8>, Fault>
 
 impl Session {
     ghost use Rattle.std.specs.Prelude.{◌≡◌, ◌<◌, ◌⊎◌, ℕ, List, Some, Ok, IfOk, IfErr, OnOk, OnErr, IsTrue, IsErrOf};
-    ghost use Rattle.std.specs.List.{list_all};
+    ghost use Rattle.std.specs.List.{AllByRecursion, list_all};
     ghost use Rattle.dfs_host.specs.Disk.{IsSettled};
     ghost use Rattle.dfs_host.specs.Fault.{HasFaultCause};
     ghost use Rattle.dfs_host.specs.Host.{HostState, Told, LeavesOnly, ChangesOnly, OnlyReads, SaysNothing, bytes_of};
@@ -70,10 +70,10 @@ impl Session {
     ghost use Rattle.dfs_script.specs.declared.JobWord.{JobWord as AJobWord};
     ghost use Rattle.dfs_script.specs.declared.Line.TheVariants.{Begin};
     ghost use Rattle.dfs_session.specs.Selected.{is_selected};
-    ghost use Rattle.dfs_session.specs.Sound.{IsSound};
+    ghost use Rattle.dfs_session.specs.Sound.{IsSound, jobs_of};
     ghost use Rattle.dfs_job.specs.Stands.{AreSettings};
     ghost use Rattle.dfs_session.specs.Stands.{Stands, LeavesValue};
-    ghost use Rattle.dfs_session.specs.Worked.{AreNamed, OpensAs, IsShort, IsWorked, has_refused, job_by, many_by, names_by, of_command, of_line, settings_by};
+    ghost use Rattle.dfs_session.specs.Worked.{AreNamed, OpensAs, IsPast, IsShort, IsWorked, has_refused, job_by, many_by, names_by, of_command, of_line, settings_by};
 
     /// Opens the registry of a host. Jobs that begin are given the settings.
     pub fn open<H: Host>(
@@ -137,6 +137,7 @@ impl Session {
         // many tables; and only where the log of the line's job is too short for what that job selected and made, this line counted.
         ensures full { IsErrOf result Fault.LogFull → IsTrue (has_refused self.new) ⊎ IsTrue (many_by (meaning line.now) self.old) }
         ensures refused { IsTrue (has_refused self.new) → IsErrOf result Fault.LogFull }
+        ensures past { AllByRecursion (λ e. IsPast e.1) (jobs_of self.new) }
         ensures short { (s : PlainSession) → Told (H.state host.old) (Stands (H.state host.old) self.old s → IsErrOf result Fault.LogFull → IsShort (job_by s (meaning line.now))) }
         // Each live job keeps the names of its begin, as long as it lives.
         ensures names { OnOk result (AreNamed (names_by (meaning line.now)) self.old self.new) }

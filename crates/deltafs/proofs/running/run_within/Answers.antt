@@ -11,7 +11,7 @@ use Rattle.deltafs.specs.Complete.{IsCompleted, IsWithin, JobsHaveRoom}
 use Rattle.deltafs.specs.Lines.{IsAfter}
 use Rattle.deltafs.specs.Says.{Untaken}
 use Rattle.deltafs.specs.Words.{command_of}
-use Rattle.deltafs.proofs.Completing.{completes_gen, completes_run, completes_unopened, disk_unopened, never_done, no_disk_fault, no_output_fault, no_source_fault, no_words, none_by, tells_isolated}
+use Rattle.deltafs.proofs.Completing.{completes_gen, completes_run, completes_unopened, disk_unopened, no_disk_fault, no_output_fault, no_source_fault, no_words, none_by, tells_isolated}
 use Rattle.deltafs.proofs.Faults.{limit_unopened, takes_none}
 use Rattle.deltafs.proofs.Leaving.{idle, opened_first, opening, prompt_idle, shut_idle}
 use Rattle.deltafs.proofs.Starting.{gen_run, says_nothing, says_unopened, some_none}
@@ -87,9 +87,11 @@ returns-in-Run-clause-complete g c old start room within none =
     (no_source_fault status source.faults (g.S.Source.state c.run_script.new.source).faults c.run_script.ensures.input none.input) (cause.never_changed (c.open.ensures.cause.tells ∙ start.host_tells))
 
 pub returns-in-Run-clause-isolated : goal.returns-in-Run-clause-isolated
-returns-in-Run-clause-isolated g c old start run done =
-    tells_isolated old (g.S.Source.state c.args.source.now).rest (g.S.Source.state c.run_script.new.source).rest (said_of (g.H.Host.state c.run_script.new.host)) (value_on (g.H.Host.state c.run_script.new.host)) (command_of c.args.words.now) c.run_script.result run
-    done (returns-in-Run-clause-says g c old start)
+returns-in-Run-clause-isolated g c old start run =
+    let source = (g.S.Source.state c.args.source.now).rest in
+    let rest = (g.S.Source.state c.run_script.new.source).rest in
+    let new = g.H.Host.state c.run_script.new.host in
+    tells_isolated old source rest (said_of new) (value_on new) (command_of c.args.words.now) c.run_script.result run (returns-in-Run-clause-says g c old start)
 
 -- A generated script.
 
@@ -146,7 +148,7 @@ returns-in-Gen-clause-complete g c old start room within none =
     (no_output_fault status host.say_faults new.say_faults (subst (λ n. SayFaultsOf status n new.say_faults) c.open.ensures.cause.say_faults cause.say_faults) none.output) (cause.never_changed (c.open.ensures.cause.tells ∙ start.host_tells))
 
 pub returns-in-Gen-clause-isolated : goal.returns-in-Gen-clause-isolated
-returns-in-Gen-clause-isolated g c old start run done = absurd (gen_run c.in-Gen.creates (sym (sym c.command_of.ensures ∙ c.in-Some.is ∙ ap Some c.in-Gen.is) ∙ run))
+returns-in-Gen-clause-isolated g c old start run = absurd (gen_run c.in-Gen.creates (sym (sym c.command_of.ensures ∙ c.in-Some.is ∙ ap Some c.in-Gen.is) ∙ run))
 
 -- A registry that was not opened.
 
@@ -188,7 +190,10 @@ returns-in-Err-clause-complete g c old start room within none =
     (λ is. none.disk (c.open.ensures.cause.disk (c.in-Err.is ∙ ap Err (disk_unopened c.in-Err.fault is)))))
 
 pub returns-in-Err-clause-isolated : goal.returns-in-Err-clause-isolated
-returns-in-Err-clause-isolated g c old start run done = absurd (never_done c.in-Err.fault (sym c.unopened.ensures ∙ done))
+returns-in-Err-clause-isolated g c old start run =
+    let script = (g.S.Source.state c.args.source.now).rest in
+    let mid = g.H.Host.state c.open.new.host in
+    tells_isolated old script script (said_of mid) (value_on mid) (command_of c.args.words.now) c.unopened.result run (returns-in-Err-clause-says g c old start)
 
 -- Other words.
 
@@ -204,6 +209,9 @@ returns-in_default-clause-shut g c tells settled none = record { said = refl; un
 pub returns-in_default-clause-complete : goal.returns-in_default-clause-complete
 returns-in_default-clause-complete g c old start room within none = absurd (no_words (command_of c.args.words.now) old (g.S.Source.state c.args.source.now).rest (sym c.command_of.ensures ∙ none_by c.command_of.result c.in_default.not-Some) room)
 
+pub returns-in_default-clause-isolated : goal.returns-in_default-clause-isolated
+returns-in_default-clause-isolated g c old start run = absurd (some_none Run (sym run ∙ sym c.command_of.ensures ∙ none_by c.command_of.result c.in_default.not-Some))
+
 -- Want of memory at the start.
 
 pub returns-in_default-new-clause-says : goal.returns-in_default-new-clause-says
@@ -217,6 +225,12 @@ returns-in_default-new-clause-prompt g c old start = prompt_idle old _ _
 
 pub returns-in_default-new-clause-limit : goal.returns-in_default-new-clause-limit
 returns-in_default-new-clause-limit g c run tells = takes_none _ _
+
+pub returns-in_default-new-clause-isolated : goal.returns-in_default-new-clause-isolated
+returns-in_default-new-clause-isolated g c old start run =
+    let script = (g.S.Source.state c.args.source.now).rest in
+    let host = g.H.Host.state c.args.host.now in
+    tells_isolated old script script (said_of host) (value_on host) (command_of c.args.words.now) NoMemory run (returns-in_default-new-clause-says g c old start)
 
 pub returns-in_default-new-clause-shut : goal.returns-in_default-new-clause-shut
 returns-in_default-new-clause-shut g c tells settled none = record { said = refl; untaken = refl; value = none; only = shut_idle (g.H.Host.state c.args.host.now) settled }

@@ -1,13 +1,23 @@
-use Rattle.std.proofs.Common.{inl, inr, ◌∙◌, ◌≡◌, ◌+◌, ◌*◌, ap, arith, sym, subst, refl, flat_map, List}
+use Rattle.std.proofs.Common.{inl, inr, ◌∙◌, ◌≡◌, ◌+◌, ◌*◌, ap, arith, sym, subst, refl, flat_map, List, ℕ, Some}
+use Rattle.std.specs.Prelude.{IfOk}
 use Rattle.std.proofs.lemmas.Result.{err_from_is_err_and}
 use Rattle.std.specs.List.{AllByRecursion}
-use Rattle.dfs_host.specs.Host.{Only}
+use Rattle.dfs_host.specs.Host.{Only, bytes_of}
 use Rattle.dfs_host.proofs.Moments.{only_goes_on}
+use Rattle.dfs_record.specs.Delta.{delta}
+use Rattle.dfs_record.specs.KeyMap.{len}
 use Rattle.dfs_change.specs.Identities.{FitsJob}
-use Rattle.dfs_view.specs.Lists.{flushed}
+use Rattle.dfs_change.specs.Meant.{log_meaning}
+use Rattle.dfs_change.specs.Sealing.{entry_of}
+use Rattle.dfs_ops.specs.Within.{IsRecordWithin}
+use Rattle.dfs_table.proofs.Stays.{all_weaker}
+use Rattle.dfs_view.specs.Layers.{own_runs}
+use Rattle.dfs_view.specs.Lists.{flushed, joined}
 use Rattle.dfs_view.specs.View.{closed_count}
 use Rattle.dfs_job.specs.declared.settings.Settings.{Settings}
+use Rattle.dfs_job.proofs.Fair.{within_fits}
 use Rattle.dfs_job.proofs.Keeping.{account_short, too_many_short}
+use Rattle.dfs_job.specs.Sealed.{IsSealable}
 use Rattle.dfs_job.specs.Stands.{own_count}
 use Rattle.dfs_job.proofs.Layers.{flushed_closed}
 use Rattle.dfs_job.proofs.Parting.{passes_more}
@@ -24,9 +34,38 @@ seal-requires-clause-sealable g c = λ tells.
       layers = (flushed j.layers).closed;
       are = record {
         stored = (of.works.added told refl j.layers one.stands.layers).closed;
-        own = subst (λ n. AllByRecursion (FitsJob n) (flat_map (λ (x : List _). x) (flushed j.layers).closed)) (sym file) (subst (AllByRecursion (FitsJob j.ids.job)) (sym (flushed_closed j.layers)) one.stands.fair.own);
+        own = subst (λ n. AllByRecursion (FitsJob n) (flat_map (λ (x : List _). x) (flushed j.layers).closed)) (sym file) (subst (AllByRecursion (FitsJob j.ids.job)) (sym (flushed_closed j.layers)) (all_weaker (IsRecordWithin j.ids) (FitsJob j.ids.job) (joined j.layers) (within_fits j.ids) one.stands.fair.own));
       };
     }
+
+pub returns-clause-changes : goal.returns-clause-changes
+returns-clause-changes g c = λ j tells stands.
+    let of = c.in_ok-flush.ensures in
+    let mid = g.H.Host.state c.flush.new.host in
+    let file : c.flush.new.layers.log.file ≡ j.ids.job = of.works.file ∙ c.requires.sound.fit.file ∙ ap (λ (n : _). n.job) (sym stands.ids) in
+    let ls = (flushed j.layers).closed in
+    let are : IsSealable mid c.flush.new.layers.log.file (own_runs c.flush.new.layers) ls = record {
+      stored = (of.works.added tells refl j.layers stands.layers).closed;
+      own = subst (λ n. AllByRecursion (FitsJob n) (flat_map (λ (x : List _). x) ls)) (sym file)
+          (subst (AllByRecursion (FitsJob j.ids.job)) (sym (flushed_closed j.layers)) (all_weaker (IsRecordWithin j.ids) (FitsJob j.ids.job) (joined j.layers) (within_fits j.ids) stands.fair.own));
+    } in
+    let after = bytes_of (g.H.Host.state c.seal.new.host) in
+    subst (λ d. IfOk c.seal.result (λ sealed. (name : List ℕ) → log_meaning (after c.args.self.now.ids.job) (entry_of name c.args.self.now.ids.job sealed) ≡ Some d)) (ap delta (flushed_closed j.layers))
+    (subst (λ n. IfOk c.seal.result (λ sealed. (name : List ℕ) → log_meaning (after n) (entry_of name n sealed) ≡ Some (delta (flat_map (λ (x : List _). x) ls)))) (of.works.file ∙ c.requires.sound.fit.file)
+    (c.seal.ensures.changes ls (of.cause.tells ∙ tells) are))
+
+pub returns-clause-count : goal.returns-clause-count
+returns-clause-count g c = λ j tells stands.
+    let of = c.in_ok-flush.ensures in
+    let mid = g.H.Host.state c.flush.new.host in
+    let file : c.flush.new.layers.log.file ≡ j.ids.job = of.works.file ∙ c.requires.sound.fit.file ∙ ap (λ (n : _). n.job) (sym stands.ids) in
+    let ls = (flushed j.layers).closed in
+    let are : IsSealable mid c.flush.new.layers.log.file (own_runs c.flush.new.layers) ls = record {
+      stored = (of.works.added tells refl j.layers stands.layers).closed;
+      own = subst (λ n. AllByRecursion (FitsJob n) (flat_map (λ (x : List _). x) ls)) (sym file)
+          (subst (AllByRecursion (FitsJob j.ids.job)) (sym (flushed_closed j.layers)) (all_weaker (IsRecordWithin j.ids) (FitsJob j.ids.job) (joined j.layers) (within_fits j.ids) stands.fair.own));
+    } in
+    subst (λ d. IfOk c.seal.result (λ sealed. sealed.count ≡ len d)) (ap delta (flushed_closed j.layers)) (c.seal.ensures.count ls (of.cause.tells ∙ tells) are)
 
 pub returns-clause-only : goal.returns-clause-only
 returns-clause-only g c =

@@ -13,7 +13,7 @@ use Rattle.dfs_job.specs.declared.job.Job.{Job as LiveJob}
 use Rattle.dfs_job.specs.Job.{Job, after_flush}
 use Rattle.dfs_session.specs.Session.{of_live, with_job}
 use Rattle.dfs_session.specs.Worked.{IsShort, IsWorked, flushing}
-use Rattle.dfs_session.proofs.Changing.{answered_worked, changed_stands, fault_worked, found_job, no_job, same_basis, was_sound}
+use Rattle.dfs_session.proofs.Changing.{answered_worked, changed_stands, fault_worked, found_job, no_job, past_of, same_basis, was_sound}
 use Rattle.dfs_session.proofs.Handed.{none_unless}
 use Rattle.dfs_session.proofs.Selecting.{no_fault}
 use Rattle.dfs_session.proofs.Working.{stays_in_memory}
@@ -48,7 +48,7 @@ returns-in_err-flush g c =
     let same : c.from_residual.result ≡ Err fault = p.1 ∙ ap Err p.2 in
     subst (λ (r : Result (Vec ℕ) Fault). IsWorked (flushing w) before after session (record session { jobs = c.get_mut.follows.lender x }) r) (sym same)
     (fault_worked before after session w live c.requires found c.flush.ensures.only x (c.get_mut.follows.lender x) (c.get_mut.follows.holds x).0 (flushing w) fault
-    (subst (λ (r : Result (Unit {0}) Fault). HasFaultCause before after r) was c.flush.ensures.cause) (λ is. inl (c.flush.ensures.full.0 (was ∙ is))) (λ some. sym was ∙ c.flush.ensures.full.1 some)
+    (subst (λ (r : Result (Unit {0}) Fault). HasFaultCause before after r) was c.flush.ensures.cause) (λ is. inl (c.flush.ensures.full.0 (was ∙ is))) (past_of before after session w live c.requires found x c.flush.ensures.settings c.flush.ensures.past) (λ some. sym was ∙ c.flush.ensures.full.1 some)
     (λ s tells stands is.
     let f = found_job before session s w live stands found in
     subst IsShort (sym f.found) (c.flush.ensures.short f.plain tells f.is (was ∙ ap Err is))))

@@ -17,7 +17,7 @@ use Rattle.dfs_job.specs.declared.job.Job.{Job as LiveJob}
 use Rattle.dfs_job.specs.Job.{Job, after, does}
 use Rattle.dfs_session.specs.Session.{of_live, operates, told}
 use Rattle.dfs_session.specs.Worked.{IsShort, IsWorked, operating, with_op}
-use Rattle.dfs_session.proofs.Changing.{answered_worked, changed_stands, fault_worked, found_job, no_job, same_basis, was_sound}
+use Rattle.dfs_session.proofs.Changing.{answered_worked, changed_stands, fault_worked, found_job, no_job, past_of, same_basis, was_sound}
 use Rattle.dfs_session.proofs.Handed.{none_unless}
 use Rattle.dfs_session.proofs.Selecting.{no_fault}
 use Rattle.dfs_session.proofs.Working.{stays_in_memory}
@@ -54,7 +54,7 @@ returns-in_err-answer g c =
     let same : c.from_residual.result ≡ Err fault = p.1 ∙ ap Err p.2 in
     subst (λ (r : Result (Vec ℕ) Fault). IsWorked (operating w op) before after session (record session { jobs = c.get_mut.follows.lender x }) r) (sym same)
     (fault_worked before after session w live c.requires.sound found c.op.ensures.only x (c.get_mut.follows.lender x) (c.get_mut.follows.holds x).0 (operating w op) fault
-    (subst (λ (r : Result OpReply Fault). HasFaultCause before after r) was c.op.ensures.cause) (λ is. inl (c.op.ensures.full.0 (was ∙ is))) (λ some. sym was ∙ c.op.ensures.full.1 some)
+    (subst (λ (r : Result OpReply Fault). HasFaultCause before after r) was c.op.ensures.cause) (λ is. inl (c.op.ensures.full.0 (was ∙ is))) (past_of before after session w live c.requires.sound found x c.op.ensures.settings c.op.ensures.past) (λ some. sym was ∙ c.op.ensures.full.1 some)
     (λ s tells stands is.
     let f = found_job before session s w live stands found in
     subst (λ (o : Option Job). IsShort (with_op op o)) (sym f.found) (c.op.ensures.short f.plain tells f.is (was ∙ ap Err is))))

@@ -17,7 +17,7 @@ use Rattle.dfs_job.specs.declared.answers.Planned.{Planned}
 use Rattle.dfs_job.specs.Job.{Job, after_plan}
 use Rattle.dfs_session.specs.Session.{of_live, plans_with, told_of_plan}
 use Rattle.dfs_session.specs.Worked.{IsShort, IsWorked, planning, with_plan_made}
-use Rattle.dfs_session.proofs.Changing.{answered_worked, changed_stands, fault_worked, found_job, no_job, parts_within, plan_short, same_basis, was_sound}
+use Rattle.dfs_session.proofs.Changing.{answered_worked, changed_stands, fault_worked, found_job, no_job, parts_within, past_of, plan_short, same_basis, was_sound}
 use Rattle.dfs_session.proofs.Handed.{none_unless}
 use Rattle.dfs_session.proofs.Selecting.{no_fault}
 use Rattle.dfs_session.proofs.Working.{stays_in_memory}
@@ -56,7 +56,7 @@ returns-in_err-answer g c =
     let same : c.from_residual.result ≡ Err fault = p.1 ∙ ap Err p.2 in
     subst (λ (r : Result (Vec ℕ) Fault). IsWorked work before after session (record session { jobs = c.get_mut.follows.lender x }) r) (sym same)
     (fault_worked before after session w live c.requires.sound found c.plan.ensures.only x (c.get_mut.follows.lender x) (c.get_mut.follows.holds x).0 work fault
-    (subst (λ (r : Result Planned Fault). HasFaultCause before after r) was c.plan.ensures.cause) (λ is. inl (c.plan.ensures.full.0 (was ∙ is))) (λ some. sym was ∙ c.plan.ensures.full.1 some)
+    (subst (λ (r : Result Planned Fault). HasFaultCause before after r) was c.plan.ensures.cause) (λ is. inl (c.plan.ensures.full.0 (was ∙ is))) (past_of before after session w live c.requires.sound found x c.plan.ensures.settings c.plan.ensures.past) (λ some. sym was ∙ c.plan.ensures.full.1 some)
     (λ s tells stands is.
     let f = found_job before session s w live stands found in
     subst (λ (o : Option Job). IsShort (with_plan_made c.args.scope c.args.parts o)) (sym f.found) (plan_short f.plain c.args.scope c.args.parts (c.plan.ensures.short f.plain tells f.is (was ∙ ap Err is)))))

@@ -4,6 +4,7 @@ use Rattle.dfs_host.specs.Host.{said_of}
 use Rattle.dfs_host.proofs.Moments.{goes_on}
 use Rattle.dfs_session.specs.Files.{value_on}
 use Rattle.deltafs.specs.declared.status.Status.{Status}
+use Rattle.deltafs.specs.declared.status.Status.TheVariants.{NoMemory}
 use Rattle.deltafs.specs.declared.words.Command.TheVariants.{Run, Gen}
 use Rattle.deltafs.specs.Causes.{DiskFaultsOf, IsOfLines, SayFaultsOf}
 use Rattle.deltafs.specs.Commands.{Keeps, Says}

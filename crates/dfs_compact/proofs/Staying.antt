@@ -1,7 +1,8 @@
 -- A compaction stands on after one more part was written to its log.
 use Rattle.std.proofs.Common.{◌≡◌, ◌≢◌, ◌<◌, ◌+◌, ℕ, zero, suc, Bool, true, false, List, [], ◌∷◌, ◌++◌, length, take, drop, refl, sym, ap, subst, ◌∙◌, arith, eqb-true, length-append}
 use Rattle.std.specs.Prelude.{Option, Some, None, Result, Ok, ◌==◌, get_or, is_some, slice_get, slice_set, IsSome, IsSomeAnd, IsTrue}
-use Rattle.std.specs.List.{AllByRecursion}
+use Rattle.std.specs.List.{AllByRecursion, sum_by}
+use Rattle.std.proofs.lemmas.List.Sums.{sum_by-append}
 use Rattle.std.proofs.lemmas.Bool.{eqb-false}
 use Rattle.std.proofs.lemmas.List.{take-append-drop}
 use Rattle.std.proofs.lemmas.Option.{same_Some, slice_get-get_or}
@@ -11,12 +12,13 @@ use Rattle.dfs_record.specs.Records.{Files}
 use Rattle.dfs_plan.specs.Parts.{boundary}
 use Rattle.dfs_table.specs.declared.run.Run.{Run}
 use Rattle.dfs_table.specs.declared.table.Table.{Table}
+use Rattle.dfs_table.specs.Cut.{IsCut}
 use Rattle.dfs_table.specs.Stored.{IsStored, IsTableOf, run_records}
 use Rattle.dfs_table.specs.Writer.{AreIn}
 use Rattle.dfs_table.proofs.Stays.{all_append, all_behind, all_front, run_stays, tables_stay}
 use Rattle.dfs_compact.specs.declared.compaction.Parted.{Parted}
 use Rattle.dfs_compact.specs.declared.compaction.Parted.TheVariants.{Merged, Last, Range, Done}
-use Rattle.dfs_compact.specs.Compaction.{CompactionState, HasOutcome, Stands}
+use Rattle.dfs_compact.specs.Compaction.{CompactionState, HasOutcome, Stands, part_of}
 use Rattle.dfs_compact.specs.Parts.{AreSources, IsSource, merged_part, tables_in, tables_of}
 
 -- ---- one part in its place
@@ -72,6 +74,13 @@ set_length [] i v = refl
 set_length (y ∷ xs) zero v = refl
 set_length (y ∷ xs) (suc i) v = ap suc (set_length xs i v)
 
+-- what a sum over the tables of all parts gains
+pub set_sum : (f : Table → ℕ) (ms : List (Option Run)) (i : ℕ) (run : Run) → slice_get ms i ≡ Some None → sum_by f (tables_of (slice_set ms i (Some run))) ≡ sum_by f (tables_of ms) + sum_by f run.tables
+set_sum f [] i run at = absurd cc
+set_sum f (m ∷ ms) zero run at = omega (arith, sum_by-append f run.tables (tables_of ms), ap (λ (o : Option Run). sum_by f (tables_of (o ∷ ms))) (same_Some m None at))
+set_sum f (m ∷ ms) (suc i) run at =
+    omega (arith, sum_by-append f (tables_in m) (tables_of (slice_set ms i (Some run))), sum_by-append f (tables_in m) (tables_of ms), set_sum f ms i run at)
+
 pub set_tables : (ms : List (Option Run)) (i : ℕ) (run : Run) → slice_get ms i ≡ Some None → length (tables_of (slice_set ms i (Some run))) ≡ length (tables_of ms) + length run.tables
 set_tables [] i run at = absurd cc
 set_tables (m ∷ ms) zero run at =
@@ -96,7 +105,7 @@ stored_on old new n run d kept stored =
     }
 
 pub stands_still : {files : Files} {file : ℕ} {c : CompactionState} {ds : List Delta} {b : Bool} → Stands files file c ds → Stands files file (record c { spent = b }) ds
-stands_still stands = record { sources = stands.sources; inside = stands.inside; each = stands.each }
+stands_still stands = record { sources = stands.sources; inside = stands.inside; each = stands.each; cut = stands.cut }
 
 module _ (old new : HostState) (log len : ℕ) (tells : IsTrue old.tells) (only : Only log old new) (before : Told old (take len (bytes_of new log) ≡ bytes_of old log)) where
   source_on : (run : Run) (d : Delta) → IsSource (bytes_of old) run d → IsSource (bytes_of new) run d
@@ -118,11 +127,12 @@ module _ (old new : HostState) (log len : ℕ) (tells : IsTrue old.tells) (only 
 
   -- one more part was merged, and is stored
   pub stands_on : (c : CompactionState) (ds : List Delta) (index : ℕ) (run : Run) → AreIn log run.tables → Stands (bytes_of old) log c ds
-      → (AreSources (bytes_of old) c.sources ds → IsStored (bytes_of new log) run (delta (merged_part (boundary c.keys c.parts index) (boundary c.keys c.parts (index + 1)) ds)))
+      → (AreSources (bytes_of old) c.sources ds → IsStored (bytes_of new log) run (delta (part_of c ds index))) → (AreSources (bytes_of old) c.sources ds → IsCut (part_of c ds index) run.tables)
       → Stands (bytes_of new) log (record c { merged = slice_set c.merged index (Some run) }) ds
-  stands_on c ds index run inside stands stored = record {
+  stands_on c ds index run inside stands stored cut = record {
     sources = sources_on c.sources ds stands.sources;
     inside = set_all (λ (t : Table). t.file ≡ log) c.merged index run inside stands.inside;
-    each = set_each c.merged index run (λ i r. IsStored (bytes_of new log) r (delta (merged_part (boundary c.keys c.parts i) (boundary c.keys c.parts (i + 1)) ds))) (stored stands.sources)
-        (λ i r at. stored_on (bytes_of old log) (bytes_of new log) len r (delta (merged_part (boundary c.keys c.parts i) (boundary c.keys c.parts (i + 1)) ds)) (before tells) (stands.each i r at));
+    each = set_each c.merged index run (λ i r. IsStored (bytes_of new log) r (delta (part_of c ds i))) (stored stands.sources)
+        (λ i r at. stored_on (bytes_of old log) (bytes_of new log) len r (delta (part_of c ds i)) (before tells) (stands.each i r at));
+    cut = set_each c.merged index run (λ i r. IsCut (part_of c ds i) r.tables) (cut stands.sources) stands.cut;
   }

@@ -3,6 +3,7 @@ use Rattle.std.specs.Prelude.{◌≡◌, ◌≤◌, ◌<◌, ◌+◌, ◌*◌, �
 use Rattle.std.specs.List.{AllByRecursion}
 use Rattle.std.specs.List.Sorted.{IsPermutation}
 use Rattle.dfs_record.specs.declared.Key.{Key}
+use Rattle.dfs_record.specs.declared.Record.{Record}
 use Rattle.dfs_record.specs.Delta.{Delta, delta}
 use Rattle.dfs_record.specs.Records.{Files}
 use Rattle.dfs_cursor.specs.Ranges.{is_within}
@@ -10,6 +11,7 @@ use Rattle.dfs_plan.specs.Parts.{boundary}
 use Rattle.dfs_plan.specs.Plan.{IsPlan}
 use Rattle.dfs_table.specs.declared.run.Run.{Run}
 use Rattle.dfs_table.specs.Counts.{count_of}
+use Rattle.dfs_table.specs.Cut.{IsCut, tables_needed}
 use Rattle.dfs_table.specs.Stored.{IsStored}
 use Rattle.dfs_table.specs.Tables.{AreTables, all_fences}
 use Rattle.dfs_table.specs.Writer.{AreIn, EndsPass}
@@ -27,12 +29,21 @@ pub record CompactionState : Type 0 where
   pub merged : List (Option Run)
   pub spent : Bool
 
+-- the records of the part with this number
+abbrev pub part_of : CompactionState → List Delta → ℕ → List Record
+part_of c ds i = merged_part (boundary c.keys c.parts i) (boundary c.keys c.parts (i + 1)) ds
+
 -- A compaction stands where its sources are stored in their files for these change sets, and the tables of each merged part lie in
--- this file and are stored there for the merged list of the change sets, cut to the part's range.
+-- this file and are stored there for the merged list of the change sets, cut to the part's range, as many as it needs.
 pub record Stands (files : Files) (file : ℕ) (c : CompactionState) (ds : List Delta) : Type 0 where
   pub sources : AreSources files c.sources ds
   pub inside : AreIn file (tables_of c.merged)
-  pub each : (i : ℕ) (run : Run) → slice_get c.merged i ≡ Some (Some run) → IsStored (files file) run (delta (merged_part (boundary c.keys c.parts i) (boundary c.keys c.parts (i + 1)) ds))
+  pub each : (i : ℕ) (run : Run) → slice_get c.merged i ≡ Some (Some run) → IsStored (files file) run (delta (part_of c ds i))
+  pub cut : (i : ℕ) (run : Run) → slice_get c.merged i ≡ Some (Some run) → IsCut (part_of c ds i) run.tables
+
+-- with this part the run of all parts would pass 131,072 tables
+abbrev pub IsPastWith : CompactionState → List Delta → ℕ → Type 0
+IsPastWith c ds i = 131072 < length (tables_of c.merged) + tables_needed (part_of c ds i)
 
 -- the part with this number was merged
 abbrev pub IsMerged : CompactionState → ℕ → Type 0

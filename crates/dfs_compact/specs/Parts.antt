@@ -1,14 +1,16 @@
 -- The parts of a compaction: which records each has, and where they lie.
-use Rattle.std.specs.Prelude.{ℕ, List, [], ◌∷◌, map, flat_map, Option, Some, None}
+use Rattle.std.specs.Prelude.{ℕ, zero, suc, ◌+◌, List, [], ◌∷◌, map, flat_map, Option, Some, None}
 use Rattle.dfs_record.specs.declared.Key.{Key}
 use Rattle.dfs_record.specs.declared.Record.{Record}
 use Rattle.dfs_record.specs.Delta.{Delta, merged, records_of}
 use Rattle.dfs_record.specs.Records.{Files}
 use Rattle.dfs_cursor.specs.Ranges.{part}
 use Rattle.dfs_fence.specs.declared.fence.Fence.{Fence}
+use Rattle.dfs_plan.specs.Parts.{boundary}
 use Rattle.dfs_table.specs.declared.run.Run.{Run}
 use Rattle.dfs_table.specs.declared.table.Table.{Table}
 use Rattle.dfs_table.specs.Counts.{count_of}
+use Rattle.dfs_table.specs.Cut.{tables_needed}
 use Rattle.dfs_table.specs.Stored.{IsStored}
 use Rattle.dfs_table.specs.Tables.{all_fences}
 use Rattle.dfs_table.specs.Writer.{AreIn}
@@ -50,3 +52,8 @@ tables_in (Some run) = run.tables
 -- the tables of all merged parts, in the order of their ranges
 abbrev pub tables_of : List (Option Run) → List Table
 tables_of merged = flat_map tables_in merged
+
+-- how many tables the parts below this number need together
+abbrev pub tables_below : List Key → ℕ → List Delta → ℕ → ℕ
+tables_below keys parts ds zero = 0
+tables_below keys parts ds (suc i) = tables_below keys parts ds i + tables_needed (merged_part (boundary keys parts i) (boundary keys parts (i + 1)) ds)

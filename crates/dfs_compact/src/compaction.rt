@@ -1,6 +1,7 @@
 //! Compactions.
 
 ghost use Rattle.std.specs.Prelude.{◌≡◌, ◌≤◌, ◌<◌, ◌+◌, ◌*◌, ◌++◌, ◌∷◌, ◌⊎◌, ◌↔◌, [], ℕ, List, length, take, map, replicate, slice_get, slice_set, vec_capacity, IsFalse, IsTrue, IsErrOf, IfOk, OnOk, OnErr};
+ghost use Rattle.std.specs.List.{sum_by};
 ghost use Rattle.std.specs.List.Sorted.{IsPermutation};
 ghost use Rattle.dfs_host.specs.Fault.{HasFaultCause};
 ghost use Rattle.dfs_host.specs.Host.{Told, bytes_of, Only};
@@ -12,11 +13,12 @@ ghost use Rattle.dfs_log.specs.Logs.{LogStands};
 ghost use Rattle.dfs_plan.specs.Parts.{AreSorted};
 ghost use Rattle.dfs_table.specs.declared.run.Run.{Run as AnyRun};
 ghost use Rattle.dfs_table.specs.Counts.{count_of};
+ghost use Rattle.dfs_table.specs.Cut.{tables_needed};
 ghost use Rattle.dfs_table.specs.Stored.{IsStored};
 ghost use Rattle.dfs_table.specs.Tables.{all_fences};
-ghost use Rattle.dfs_table.specs.Writer.{AreIn};
+ghost use Rattle.dfs_table.specs.Writer.{AreIn, table_len};
 ghost use Rattle.dfs_compact.specs.Parts.{AreSources, count_all, first_keys, tables_in, tables_of};
-ghost use Rattle.dfs_compact.specs.Compaction.{AreMerged, HasOutcome, IsAdded, IsMerged, IsOverfull, IsPartOf, IsRefusal, IsWritten, Stands};
+ghost use Rattle.dfs_compact.specs.Compaction.{AreMerged, HasOutcome, IsAdded, IsMerged, IsOverfull, IsPartOf, IsPastWith, IsRefusal, IsWritten, Stands, part_of};
 
 use crate::keys::keys_of;
 use crate::sources::write_part;
@@ -133,14 +135,22 @@ impl Compaction {
         ensures before { Told (H.state host.old) (take log.old.len (bytes_of (H.state host.new) log.old.file) ≡ bytes_of (H.state host.old) log.old.file) }
         ensures log_same { (log.new.file ≡ log.old.file) × (log.new.limit ≡ log.old.limit) }
 
-        // `LogFull` where the log refused a piece, and else only where the run of all parts may pass 131,072 tables: of the records
-        // that are still to be merged there are more than its other tables have blocks.
+        // `LogFull` exactly where the log refused a piece or, with the part, the run of all parts would pass 131,072 tables, but for
+        // want of memory and a disk fault.
+        ensures past { (ds : List Delta) → Told (H.state host.old) (Stands (bytes_of (H.state host.old)) log.old.file self.old ds → IsErrOf result Fault.LogFull → (0 < log.new.refused) ⊎ IsPastWith self.old ds part) }
+        ensures too_many { (ds : List Delta) → Told (H.state host.old) (Stands (bytes_of (H.state host.old)) log.old.file self.old ds → IsPastWith self.old ds part → IfOk result IsRefusal) }
+        ensures needed { (ds : List Delta) → Told (H.state host.old) (Stands (bytes_of (H.state host.old)) log.old.file self.old ds → IfOk result (λ done. IsWritten done → length (tables_of self.new.merged) ≡ length (tables_of self.old.merged) + tables_needed (part_of self.old ds part))) }
+        // What bounds that by counts, on every host and where it stands: a full table has 4,096 blocks, and each a record at least.
         ensures full { IsErrOf result Fault.LogFull → (0 < log.new.refused) ⊎ (536870912 < 4096 * length (tables_of self.old.merged) + count_all self.old.sources) }
         ensures overfull { (ds : List Delta) → Told (H.state host.old) (Stands (bytes_of (H.state host.old)) log.old.file self.old ds → IsErrOf result Fault.LogFull → (0 < log.new.refused) ⊎ IsOverfull self.old) }
         ensures refuses { 0 < log.new.refused → IsErrOf result Fault.LogFull }
         ensures over { 0 < log.new.refused → log.new.limit < log.new.len + log.new.refused }
 
-        // A record of the part costs the log at most 1,100 bytes, and a part has at most as many as the sources.
+        // The log grows by the part's blocks and indexes alone.
+        ensures wrote { OnOk result (log.new.len + sum_by table_len (tables_of self.old.merged) ≡ log.old.len + sum_by table_len (tables_of self.new.merged)) }
+        // A record of the part costs the log at most 1,100 bytes, those of a part that failed counted, and a part has at most as many as
+        // the sources.
+        ensures growth_of_part { (ds : List Delta) → Told (H.state host.old) (Stands (bytes_of (H.state host.old)) log.old.file self.old ds → log.new.len + log.new.refused ≤ log.old.len + 1100 * length (part_of self.old ds part)) }
         ensures growth { OnOk result (log.new.len + 1100 * count_of (all_fences (tables_of self.old.merged)) ≤ log.old.len + 1100 * count_of (all_fences (tables_of self.new.merged))) }
         ensures most { IfOk result (λ done. IsWritten done → (run : AnyRun) → slice_get self.new.merged part ≡ Some (Some run) → count_of (all_fences run.tables) ≤ count_all self.old.sources) }
         // One table at most of a part is not full.

@@ -10,9 +10,10 @@ ghost use Rattle.dfs_cursor.specs.Ranges.{is_within, part as part_between};
 ghost use Rattle.dfs_log.specs.Logs.{LogStands};
 ghost use Rattle.dfs_plan.specs.Parts.{boundary};
 ghost use Rattle.dfs_table.specs.Counts.{count_of};
+ghost use Rattle.dfs_table.specs.Cut.{IsCut, tables_needed};
 ghost use Rattle.dfs_table.specs.Stored.{IsStored};
 ghost use Rattle.dfs_table.specs.Tables.{all_fences};
-ghost use Rattle.dfs_table.specs.Writer.{AreIn, EndsPass, KeyPasses};
+ghost use Rattle.dfs_table.specs.Writer.{AreIn, EndsPass, KeyPasses, table_len};
 ghost use Rattle.dfs_compact.specs.Parts.{AreSources, IsSource, count_all, merged_part};
 
 use dfs_cursor::RangeRecords;
@@ -43,6 +44,7 @@ pub(crate) fn write_part<H: Host>(
     requires stands { Told (H.state host.old) (LogStands (H.state host.old) log.old) }
 
     ensures stored { (ds : List Delta) → Told (H.state host.old) (AreSources (bytes_of (H.state host.old)) (map (λ r. r.value) sources.now) ds → IfOk result (λ run. IsStored (bytes_of (H.state host.new) log.old.file) run (delta (merged_part (boundary plan.now.keys plan.now.parts part) (boundary plan.now.keys plan.now.parts (part + 1)) ds)))) }
+    ensures cut { (ds : List Delta) → Told (H.state host.old) (AreSources (bytes_of (H.state host.old)) (map (λ r. r.value) sources.now) ds → IfOk result (λ run. IsCut (merged_part (boundary plan.now.keys plan.now.parts part) (boundary plan.now.keys plan.now.parts (part + 1)) ds) run.tables)) }
     ensures within { IfOk result (λ run. AllByRecursion (EndsPass (is_within (boundary plan.now.keys plan.now.parts part) (boundary plan.now.keys plan.now.parts (part + 1)))) (all_fences run.tables)) }
     ensures most { IfOk result (λ run. count_of (all_fences run.tables) ≤ count_all (map (λ r. r.value) sources.now)) }
     ensures enough { IfOk result (λ run. 4096 * length run.tables ≤ count_of (all_fences run.tables) + 4095) }
@@ -51,11 +53,12 @@ pub(crate) fn write_part<H: Host>(
     ensures live { OnOk result (IsFalse log.new.spent) }
     ensures before { Told (H.state host.old) (take log.old.len (bytes_of (H.state host.new) log.old.file) ≡ bytes_of (H.state host.old) log.old.file) }
     ensures few { IfOk result (λ run. length run.tables ≤ tables_left) }
-    // `LogFull` where the log refused a piece, and else only where a table too many may be begun, which so few records do not need.
+    // `LogFull` where the log refused a piece, and else only where the part needs more tables.
     ensures full { IsErrOf result Fault.LogFull → (0 < log.new.refused) ⊎ (4096 * tables_left < count_all (map (λ r. r.value) sources.now)) }
-    ensures too_many { (ds : List Delta) → Told (H.state host.old) (AreSources (bytes_of (H.state host.old)) (map (λ r. r.value) sources.now) ds → IsErrOf result Fault.LogFull → (0 < log.new.refused) ⊎ (4096 * tables_left < length (merged_part (boundary plan.now.keys plan.now.parts part) (boundary plan.now.keys plan.now.parts (part + 1)) ds))) }
+    ensures too_many { (ds : List Delta) → Told (H.state host.old) (AreSources (bytes_of (H.state host.old)) (map (λ r. r.value) sources.now) ds → IsErrOf result Fault.LogFull → (0 < log.new.refused) ⊎ (tables_left < tables_needed (merged_part (boundary plan.now.keys plan.now.parts part) (boundary plan.now.keys plan.now.parts (part + 1)) ds))) }
     ensures refused { 0 < log.new.refused → IsErrOf result Fault.LogFull }
     ensures over { 0 < log.new.refused → log.new.limit < log.new.len + log.new.refused }
+    ensures wrote { IfOk result (λ run. log.new.len ≡ log.old.len + sum_by table_len run.tables) }
     ensures growth { IfOk result (λ run. log.new.len + log.new.refused ≤ log.old.len + 1100 * count_of (all_fences run.tables)) }
     ensures growth_of_part { (ds : List Delta) → Told (H.state host.old) (AreSources (bytes_of (H.state host.old)) (map (λ r. r.value) sources.now) ds → log.new.len + log.new.refused ≤ log.old.len + 1100 * length (merged_part (boundary plan.now.keys plan.now.parts part) (boundary plan.now.keys plan.now.parts (part + 1)) ds)) }
     ensures growth_at_most { log.new.len + log.new.refused ≤ log.old.len + 1100 * count_all (map (λ r. r.value) sources.now) }

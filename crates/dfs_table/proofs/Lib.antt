@@ -1,6 +1,7 @@
 pub mod Appends
 pub mod Closing
 pub mod Counting
+pub mod Cutting
 pub mod Few
 pub mod Finding
 pub mod Joining

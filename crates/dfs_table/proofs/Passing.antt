@@ -1,5 +1,5 @@
 -- What the keys of all records pass, the ends of the blocks written of them pass.
-use Rattle.std.proofs.Common.{◌≡◌, ◌≤◌, ◌+◌, ◌*◌, Bool, true, false, List, [], ◌∷◌, ◌++◌, length, refl, sym, ap, subst, ◌∙◌, arith, append_assoc, ltb-true, ltb-false, length-append}
+use Rattle.std.proofs.Common.{◌≡◌, ◌≤◌, Bool, true, false, List, [], ◌∷◌, ◌++◌, length, refl, sym, ap, subst, ◌∙◌, arith, append_assoc, ltb-true, ltb-false}
 use Rattle.std.specs.Prelude.{Some, nat_lt, Result, IfOk, Ok, Err}
 use Rattle.std.specs.List.{AllByRecursion}
 use Rattle.dfs_record.specs.declared.Key.{Key}
@@ -9,10 +9,9 @@ use Rattle.dfs_fence.proofs.Spelled.{some_is}
 use Rattle.dfs_table.specs.declared.run.Run.{Run}
 use Rattle.dfs_table.specs.declared.table.Table.{Table}
 use Rattle.dfs_table.specs.Tables.{all_fences}
-use Rattle.dfs_table.specs.Writer.{AddsBlock, AddsTable, EndsPass, Fits, IsSound, KeyPasses, WriterState, count_in, fences_of}
+use Rattle.dfs_table.specs.Writer.{AddsBlock, AddsTable, EndsPass, Fits, KeyPasses, WriterState, fences_of}
 use Rattle.dfs_table.proofs.Joining.{fences_more}
 use Rattle.dfs_table.proofs.Stays.{all_append}
-use Rattle.dfs_table.proofs.Steps.{blocks_enough}
 
 module _ (p : Key → Bool) where
   first_passes : (rs : List Record) (key : Key) → AllByRecursion (KeyPasses p) rs → first_key rs ≡ Some key → p key ≡ true
@@ -58,15 +57,3 @@ module _ (p : Key → Bool) where
       by : (rs : List Record) → w.records ≡ rs → AllByRecursion (EndsPass p) (all_fences run.tables)
       by [] e = subst (λ (ts : List Table). AllByRecursion (EndsPass p) (all_fences ts)) (sym (none e)) tt
       by (r ∷ rs) e = table_passes w run.tables (last (omega (arith, ap length e))) h
-
--- each table but the last is full
-pub end_enough : {E : Type 0} (w : WriterState) (result : Result Run E) → IsSound w → (w.records ≡ [] → IfOk result (λ (run : Run). run.tables ≡ [])) → (1 ≤ length w.records → IfOk result (λ (run : Run). AddsTable w run.tables))
-    → IfOk result (λ (run : Run). 4096 * length run.tables ≤ count_in w + 4095)
-end_enough w (Err e) sound none last = tt
-end_enough w (Ok run) sound none last = by w.records refl
-  where
-    by : (rs : List Record) → w.records ≡ rs → 4096 * length run.tables ≤ count_in w + 4095
-    by [] e = omega (arith, ap length (none e))
-    by (r ∷ rs) e =
-        let adds = last (omega (arith, ap length e)) in
-        omega (arith, ap length adds.tables, length-append w.closed (adds.table ∷ []), blocks_enough w sound, ap length e)

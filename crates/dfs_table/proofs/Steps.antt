@@ -144,7 +144,7 @@ counts_some : (fs : List Fence) → AllByRecursion (λ (f : Fence). 1 ≤ f.coun
 counts_some [] all = omega arith
 counts_some (f ∷ fs) all = omega (arith, sum_by-cons (λ (f : Fence). f.count) f fs, counts_some fs all.1, all.0)
 
-full_length : (ts : List Table) → AllByRecursion IsFull ts → length (all_fences ts) ≡ 4096 * length ts
+pub full_length : (ts : List Table) → AllByRecursion IsFull ts → length (all_fences ts) ≡ 4096 * length ts
 full_length [] all = omega arith
 full_length (t ∷ ts) all = omega (arith, length-append t.fences (all_fences ts), full_length ts all.1, all.0)
 

@@ -1,5 +1,5 @@
 -- Sources that are being written to logs.
-use Rattle.std.proofs.Common.{◌≡◌, ◌≤◌, ◌<◌, ◌+◌, ◌*◌, ◌++◌, ◌∷◌, [], inl, inr, ℕ, List, length, take, refl, ◌∙◌, sym, ap, subst, arith, append-nil}
+use Rattle.std.proofs.Common.{◌≡◌, ◌≤◌, ◌<◌, ◌+◌, ◌++◌, ◌∷◌, [], ℕ, List, length, take, refl, ◌∙◌, sym, ap, subst, arith, append-nil}
 use Rattle.std.specs.Prelude.{Some}
 use Rattle.std.proofs.lemmas.List.{length-take, take-take}
 use Rattle.dfs_host.specs.Host.{HostState, Told, bytes_of, Only}
@@ -15,9 +15,8 @@ use Rattle.dfs_block.proofs.Rising.{below_second}
 use Rattle.dfs_fence.proofs.Spelled.{some_is}
 use Rattle.dfs_log.specs.Logs.{LogState, LogStands}
 use Rattle.dfs_table.specs.Appending.{Appends}
-use Rattle.dfs_table.specs.Writer.{IsOneTooMany, WriterState, pushed}
+use Rattle.dfs_table.specs.Writer.{WriterState, pushed}
 use Rattle.dfs_table.specs.Written.{IsWriting}
-use Rattle.dfs_table.proofs.Steps.{blocks_enough}
 
 -- what stands behind a record is above it
 pub next_above : (r : Record) (rs : List Record) → KeysRise (r ∷ rs) → (key : Key) → first_key rs ≡ Some key → IsBelow r.key key
@@ -58,13 +57,6 @@ module _ {start mid : HostState} {log_start log : LogState} (new : HostState) (s
       limit = limit ∙ left.limit;
       over = over;
     }
-
--- a table too many is begun only for more records than so many tables have blocks
-pub too_many : {start mid : HostState} {log_start log : LogState} {tables : ℕ} {all rest : List Record} {w : WriterState} → IsWriting start mid log_start log tables all rest w → 1 ≤ length rest → (r : Record) → IsOneTooMany w r → 4096 * tables < length all
-too_many {w = w} h some r many = elim many.0 [
-  | inl none ↦ omega (arith, many.1, h.tables_left, h.count, some, ap length none, ap length (h.sound.none none).0, length-take 1 w.records)
-  | inr last ↦ omega (arith, many.1, last.1, h.tables_left, blocks_enough w h.sound, h.count, some, length-take 1 w.records)
-]
 
 -- with no record left all were given to the writer
 pub all_written : {start mid : HostState} {log_start log : LogState} {tables : ℕ} {all rest : List Record} {w : WriterState} → IsWriting start mid log_start log tables all rest w → rest ≡ [] → Told start (pushed (bytes_of mid log_start.file) w ≡ all)

@@ -1,5 +1,5 @@
 -- Records of a source that are being written to a log as a run.
-use Rattle.std.specs.Prelude.{◌≡◌, ◌≤◌, ℕ, ◌+◌, ◌*◌, ◌++◌, Bool, false, List, length, Some}
+use Rattle.std.specs.Prelude.{◌≡◌, ◌≤◌, ℕ, ◌+◌, ◌*◌, ◌++◌, Bool, false, List, length, map, Some}
 use Rattle.std.specs.List.{AllByRecursion}
 use Rattle.dfs_host.specs.Fault.{NoFault}
 use Rattle.dfs_host.specs.Host.{HostState, Told, bytes_of}
@@ -8,7 +8,8 @@ use Rattle.dfs_record.specs.declared.Record.{Record}
 use Rattle.dfs_block.specs.Block.{IsAboveLast, first_key, last_key}
 use Rattle.dfs_log.specs.Logs.{LogState, LogStands}
 use Rattle.dfs_table.specs.Appending.{Appends}
-use Rattle.dfs_table.specs.Writer.{AreIn, EndsPass, IsSound, KeyPasses, WriterStands, WriterState, count_in, fences_of, owed, pushed}
+use Rattle.dfs_table.specs.Cut.{cut, cut_behind}
+use Rattle.dfs_table.specs.Writer.{AreIn, EndsPass, IsSound, KeyPasses, WriterStands, WriterState, count_in, fences_of, owed, pushed, wrote}
 
 -- Of these records all but the rest were given to the writer, which may begin so many tables.
 pub record IsWriting (start now : HostState) (log_start log : LogState) (tables : ℕ) (all rest : List Record) (w : WriterState) : Type 0 where
@@ -22,6 +23,8 @@ pub record IsWriting (start now : HostState) (log_start log : LogState) (tables 
   pub live : w.spent ≡ false
   pub log_live : log.spent ≡ false
   pub file : AreIn log_start.file w.closed
+  pub cut : map (λ f. f.count) (fences_of w) ++ map length (cut_behind rest w.records) ≡ map length (cut all)
+  pub wrote : log.len ≡ log_start.len + wrote w
   pub growth : log.len + owed w ≤ log_start.len + 1100 * count_in w
   pub left : Appends start now log_start log
   pub no_fault : NoFault start now

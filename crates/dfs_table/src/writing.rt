@@ -1,7 +1,7 @@
 //! Runs that are written from a source of records.
 
 ghost use Rattle.std.specs.Prelude.{◌≡◌, ◌≤◌, ◌<◌, ◌+◌, ◌*◌, ◌⊎◌, ◌↔◌, ℕ, Bool, length, take, IsFalse, IsErrOf, IfOk, OnOk};
-ghost use Rattle.std.specs.List.{AllByRecursion};
+ghost use Rattle.std.specs.List.{AllByRecursion, sum_by};
 ghost use Rattle.dfs_host.specs.Fault.{HasFaultCause};
 ghost use Rattle.dfs_host.specs.Host.{Told, bytes_of, Only};
 ghost use Rattle.dfs_record.specs.declared.Key.{Key as OwnKey};
@@ -10,7 +10,8 @@ ghost use Rattle.dfs_log.specs.Logs.{LogStands};
 ghost use Rattle.dfs_table.specs.Counts.{count_of};
 ghost use Rattle.dfs_table.specs.Stored.{IsStored, run_records};
 ghost use Rattle.dfs_table.specs.Tables.{all_fences};
-ghost use Rattle.dfs_table.specs.Writer.{AreIn, EndsPass, KeyPasses};
+ghost use Rattle.dfs_table.specs.Cut.{IsCut, tables_needed};
+ghost use Rattle.dfs_table.specs.Writer.{AreIn, EndsPass, KeyPasses, table_len};
 
 use crate::{Run, TableWriter};
 use dfs_host::{Fault, Host};
@@ -39,8 +40,8 @@ pub fn write_run<H: Host, R: Records + Drop>(
     ensures count { IfOk result (λ run. count_of (all_fences run.tables) ≡ length (R.rest records)) }
     ensures file { IfOk result (λ run. AreIn log.old.file run.tables) }
     ensures few { IfOk result (λ run. length run.tables ≤ 131072) }
-    // Each table but the last has 4,096 blocks.
-    ensures enough { IfOk result (λ run. 4096 * length run.tables ≤ length (R.rest records) + 4095) }
+    // Each block takes records as long as they fit, and each table but the last has 4,096 blocks.
+    ensures cut { IfOk result (λ run. IsCut (R.rest records) run.tables) }
     // What the keys of all records pass, the first and the last key of each block pass.
     ensures passing { (p : OwnKey → Bool) → AllByRecursion (KeyPasses p) (R.rest records) → IfOk result (λ run. AllByRecursion (EndsPass p) (all_fences run.tables)) }
     ensures log { Told (H.state host.old) (OnOk result (LogStands (H.state host.new) log.new)) }
@@ -52,6 +53,8 @@ pub fn write_run<H: Host, R: Records + Drop>(
     // `LogFull` exactly where the log refused a piece.
     ensures full { IsErrOf result Fault.LogFull ↔ (0 < log.new.refused) }
     ensures over { 0 < log.new.refused → log.new.limit < log.new.len + log.new.refused }
+    // The log grows by the run's blocks and indexes alone.
+    ensures wrote { IfOk result (λ run. log.new.len ≡ log.old.len + sum_by table_len run.tables) }
     ensures growth { log.new.len + log.new.refused ≤ log.old.len + 1100 * length (R.rest records) }
     ensures never_changed { (file at : ℕ) → IsErrOf result (Fault.Changed file at) → ⊥ }
     ensures only { Only log.old.file (H.state host.old) (H.state host.new) }
@@ -80,8 +83,8 @@ pub fn write_tables<H: Host, R: Records + Drop>(
     ensures count { IfOk result (λ run. count_of (all_fences run.tables) ≡ length (R.rest records)) }
     ensures file { IfOk result (λ run. AreIn log.old.file run.tables) }
     ensures few { IfOk result (λ run. length run.tables ≤ tables_left) }
-    // Each table but the last has 4,096 blocks.
-    ensures enough { IfOk result (λ run. 4096 * length run.tables ≤ length (R.rest records) + 4095) }
+    // Each block takes records as long as they fit, and each table but the last has 4,096 blocks.
+    ensures cut { IfOk result (λ run. IsCut (R.rest records) run.tables) }
     // What the keys of all records pass, the first and the last key of each block pass.
     ensures passing { (p : OwnKey → Bool) → AllByRecursion (KeyPasses p) (R.rest records) → IfOk result (λ run. AllByRecursion (EndsPass p) (all_fences run.tables)) }
     ensures log { Told (H.state host.old) (OnOk result (LogStands (H.state host.new) log.new)) }
@@ -90,10 +93,13 @@ pub fn write_tables<H: Host, R: Records + Drop>(
     // What the log had stays, also where a device call failed.
     ensures before { Told (H.state host.old) (take log.old.len (bytes_of (H.state host.new) log.old.file) ≡ bytes_of (H.state host.old) log.old.file) }
 
-    // `LogFull` where the log refused a piece, and else only where a table too many may be begun, which so few records do not need.
-    ensures full { IsErrOf result Fault.LogFull → (0 < log.new.refused) ⊎ (4096 * tables_left < length (R.rest records)) }
+    // `LogFull` exactly where the log refused a piece or the records need more tables, but for want of memory and a disk fault.
+    ensures full { IsErrOf result Fault.LogFull → (0 < log.new.refused) ⊎ (tables_left < tables_needed (R.rest records)) }
     ensures refused { 0 < log.new.refused → IsErrOf result Fault.LogFull }
+    ensures too_many { tables_left < tables_needed (R.rest records) → OnOk result ⊥ }
     ensures over { 0 < log.new.refused → log.new.limit < log.new.len + log.new.refused }
+    // The log grows by the run's blocks and indexes alone.
+    ensures wrote { IfOk result (λ run. log.new.len ≡ log.old.len + sum_by table_len run.tables) }
     ensures growth { log.new.len + log.new.refused ≤ log.old.len + 1100 * length (R.rest records) }
     ensures never_changed { (file at : ℕ) → IsErrOf result (Fault.Changed file at) → ⊥ }
     ensures only { Only log.old.file (H.state host.old) (H.state host.new) }

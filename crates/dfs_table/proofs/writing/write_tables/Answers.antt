@@ -1,4 +1,4 @@
-use Rattle.std.proofs.Common.{◌≡◌, ◌≤◌, ◌+◌, ◌*◌, ◌∙◌, ◌++◌, ◌∷◌, [], inl, inr, length, drop, sym, ap, subst, arith, append_assoc}
+use Rattle.std.proofs.Common.{◌≡◌, ◌≤◌, ◌<◌, ◌∙◌, ◌++◌, ◌∷◌, [], inl, inr, length, map, drop, sym, ap, subst, arith, append_assoc}
 use Rattle.std.specs.Prelude.{IfOk}
 use Rattle.std.specs.List.{AllByRecursion}
 use Rattle.std.proofs.lemmas.Result.{err_from_is_err_and}
@@ -10,10 +10,13 @@ use Rattle.dfs_record.specs.Records.{KeysRise}
 use Rattle.dfs_block.specs.Block.{IsAboveLast}
 use Rattle.dfs_table.specs.Counts.{count_of}
 use Rattle.dfs_table.specs.Stored.{IsStored, run_records}
+use Rattle.dfs_fence.specs.declared.fence.Fence.{Fence}
+use Rattle.dfs_table.specs.Cut.{cut, cut_behind, tables_needed}
 use Rattle.dfs_table.specs.Tables.{all_fences}
-use Rattle.dfs_table.specs.Writer.{AreIn, IsSound, KeyPasses, WriterState, WriterStands, pushed}
-use Rattle.dfs_table.proofs.Passing.{end_enough, end_passes, push_passes}
-use Rattle.dfs_table.proofs.Writings.{all_written, appends_on, before_on, next_above, none_left, too_many, only_on}
+use Rattle.dfs_table.proofs.Cutting.{end_cut, never_too_many, push_cuts, too_many_needed}
+use Rattle.dfs_table.specs.Writer.{AreIn, IsSound, KeyPasses, WriterState, WriterStands, fences_of, pushed}
+use Rattle.dfs_table.proofs.Passing.{end_passes, push_passes}
+use Rattle.dfs_table.proofs.Writings.{all_written, appends_on, before_on, next_above, none_left, only_on}
 use Rattle.dfs_table.proofs.writing.write_tables.Goals as goal
 
 pub loop-rec-preserved : goal.loop-rec-preserved
@@ -43,6 +46,8 @@ loop-rec-preserved g c =
       live = x.live.0;
       log_live = x.live.1;
       file = subst (λ n. AreIn n c.push.new.self.closed) same x.file;
+      cut = push_cuts c.loop-rec.writer c.push.new.self r rest x.fits x.begins ∙ ap (λ l. map (λ (f : Fence). f.count) (fences_of c.loop-rec.writer) ++ map length (cut_behind l c.loop-rec.writer.records)) (sym is) ∙ h.cut;
+      wrote = omega (arith, h.wrote, x.wrote);
       growth = omega (arith, h.growth, x.growth, x.count);
       left = appends_on new c.requires.stands h.log_stands h.left c.push.ensures.before c.push.ensures.only c.push.ensures.reads c.push.ensures.same.0 c.push.ensures.same.1 c.push.ensures.over;
       no_fault = none_by h.no_fault c.push.ensures.cause (λ is. cc (is, c.in_ok-push.was));
@@ -55,10 +60,11 @@ loop-rec-preserved g c =
 
 pub returns-in_err-push-clause-full : goal.returns-in_err-push-clause-full
 returns-in_err-push-clause-full g c is =
+    let h = c.loop-rec.invariant in
     let p = err_from_is_err_and c.from_residual.result c.from_residual.ensures.1 in
     elim (c.push.ensures.full (cc (is, c.in_err-push.was, p.1, p.2))) [
       | inl some ↦ inl some
-      | inr many ↦ inr (too_many c.loop-rec.invariant (omega (arith, ap length c.in-Item.ensures.1.1)) _ many)
+      | inr many ↦ inr (subst (λ n. n < tables_needed (g.R.Records.rest c.args.records)) h.tables_left (too_many_needed c.loop-rec.writer (record_of c.in-Item.rec) c.in-Item.ensures.1.0 (g.R.Records.rest c.args.records) h.sound (subst (λ l. map (λ (f : Fence). f.count) (fences_of c.loop-rec.writer) ++ map length (cut_behind l c.loop-rec.writer.records) ≡ map length (cut (g.R.Records.rest c.args.records))) c.in-Item.ensures.1.1 h.cut) many))
     ]
 
 pub returns-in_err-push-clause-refused : goal.returns-in_err-push-clause-refused
@@ -98,11 +104,18 @@ returns-clause-count g c =
     let none = none_left _ _ c.head.result c.in_default-head.not-Item c.head.ensures in
     subst (λ n. IfOk c.finish.result (λ run. count_of (all_fences run.tables) ≡ n)) (omega (arith, h.count, ap length none)) c.finish.ensures.count
 
-pub returns-clause-enough : goal.returns-clause-enough
-returns-clause-enough g c =
+pub returns-clause-cut : goal.returns-clause-cut
+returns-clause-cut g c =
     let h = c.loop-rec.invariant in
     let none = none_left _ _ c.head.result c.in_default-head.not-Item c.head.ensures in
-    subst (λ n. IfOk c.finish.result (λ run. 4096 * length run.tables ≤ n + 4095)) (omega (arith, h.count, ap length none)) (end_enough c.loop-rec.writer c.finish.result h.sound (λ e. (c.finish.ensures.none e).0) c.finish.ensures.last)
+    end_cut c.loop-rec.writer c.finish.result (g.R.Records.rest c.args.records) h.sound
+    (ap (λ l. map (λ (f : Fence). f.count) (fences_of c.loop-rec.writer) ++ map length (cut_behind l c.loop-rec.writer.records)) (sym none) ∙ h.cut)
+    (λ e. (c.finish.ensures.none e).0) c.finish.ensures.last
+
+pub returns-clause-too_many : goal.returns-clause-too_many
+returns-clause-too_many g c many =
+    let h = c.loop-rec.invariant in
+    never_too_many c.finish.result (g.R.Records.rest c.args.records) c.args.tables_left (returns-clause-cut g c) (subst (λ n. IfOk c.finish.result (λ run. length run.tables ≤ n)) h.tables_left c.finish.ensures.few) many
 
 pub returns-clause-passing : goal.returns-clause-passing
 returns-clause-passing g c = λ p all.

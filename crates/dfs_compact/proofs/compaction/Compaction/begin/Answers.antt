@@ -36,4 +36,5 @@ returns-clause-stands c = λ files file ds are.
       sources = are;
       inside = subst (AreIn file) (sym (ap tables_of none ∙ none_have c.args.parts)) tt;
       each = λ i run at. absurd (none_at c.args.parts i run (subst (λ (ms : List (Option Run)). slice_get ms i ≡ Some (Some run)) none at));
+      cut = λ i run at. absurd (none_at c.args.parts i run (subst (λ (ms : List (Option Run)). slice_get ms i ≡ Some (Some run)) none at));
     }

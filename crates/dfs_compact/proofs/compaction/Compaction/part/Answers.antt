@@ -41,7 +41,9 @@ returns-clause-stands g c = λ ds tells stands.
     let new = g.H.Host.state c.write_part.new.host in
     let file = c.args.log.now.file in
     let start = stands_still {b = true} (subst (λ (s : CompactionState). Stands (bytes_of old) file s ds) (sym c.self.view_is) stands) in
-    let after = stands_on old new file c.args.log.now.len tells c.in_ok-run.ensures.only c.in_ok-run.ensures.before _ ds c.args.part c.in_ok-run.run' c.in_ok-run.ensures.file start (λ are. c.in_ok-run.ensures.stored ds tells (subst (λ (rs : List (Rc Run Global)). AreSources (bytes_of old) (map (λ r. r.value) rs) ds) (sym c.deref.ensures.value) are)) in
+    let after = stands_on old new file c.args.log.now.len tells c.in_ok-run.ensures.only c.in_ok-run.ensures.before _ ds c.args.part c.in_ok-run.run' c.in_ok-run.ensures.file start
+        (λ are. c.in_ok-run.ensures.stored ds tells (subst (λ (rs : List (Rc Run Global)). AreSources (bytes_of old) (map (λ r. r.value) rs) ds) (sym c.deref.ensures.value) are))
+        (λ are. c.in_ok-run.ensures.cut ds tells (subst (λ (rs : List (Rc Run Global)). AreSources (bytes_of old) (map (λ r. r.value) rs) ds) (sym c.deref.ensures.value) are)) in
     let same = c.self-2.view_is ∙ c.in-Ok.ensures.kept in
     subst (λ (s : CompactionState). Stands (bytes_of new) file s ds) (sym (ap (λ (s : CompactionState). record s { spent = false }) same)) (stands_still after)
 
@@ -170,5 +172,5 @@ returns-in_err-run-clause-overfull g c = λ ds tells stands is.
     let p = err_from_is_err_and c.from_residual.result c.from_residual.ensures.1 in
     elim (c.write_part.ensures.too_many ds tells sources (cc (is, c.in_err-run.was, p.1, p.2))) [
       | inl some ↦ inl some
-      | inr many ↦ inr (omega (arith, many, next, join_few self.merged.items (λ j run at. (c.self.invariant.0.each j run at).enough), c.self.invariant.0.len, c.self.invariant.1, c.self.invariant.0.tables, ap (λ (s : CompactionState). count_of (all_fences (tables_of s.merged))) c.self.view_is, ap (λ (s : CompactionState). count_all s.sources) c.self.view_is, ap (λ (s : CompactionState). s.parts) c.self.view_is))
+      | inr many ↦ inr (omega (arith, many, needed_few (part_of state ds c.args.part), next, join_few self.merged.items (λ j run at. (c.self.invariant.0.each j run at).enough), c.self.invariant.0.len, c.self.invariant.1, c.self.invariant.0.tables, ap (λ (s : CompactionState). count_of (all_fences (tables_of s.merged))) c.self.view_is, ap (λ (s : CompactionState). count_all s.sources) c.self.view_is, ap (λ (s : CompactionState). s.parts) c.self.view_is))
     ]

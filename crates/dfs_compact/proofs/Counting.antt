@@ -1,6 +1,6 @@
 -- All parts together have at most as many records as the sources.
-use Rattle.std.proofs.Common.{◌≡◌, ◌≤◌, ◌+◌, ℕ, zero, suc, List, [], ◌∷◌, length, map, refl, sym, ap, subst, ◌∙◌, arith, length-append}
-use Rattle.std.specs.Prelude.{Option, Some, None, flat_map, slice_get, slice_set}
+use Rattle.std.proofs.Common.{◌≡◌, ◌≤◌, ◌<◌, ◌+◌, ◌*◌, ℕ, zero, suc, List, [], ◌∷◌, length, map, refl, sym, ap, subst, ◌∙◌, arith, length-append}
+use Rattle.std.specs.Prelude.{Option, Some, None, Result, Ok, Err, IfOk, flat_map, slice_get, slice_set}
 use Rattle.std.specs.List.{AllByRecursion, sum_by}
 use Rattle.std.proofs.lemmas.List.{length-map}
 use Rattle.std.proofs.lemmas.Option.{same_Some}
@@ -14,6 +14,8 @@ use Rattle.dfs_fence.specs.declared.fence.Fence.{Fence}
 use Rattle.dfs_plan.specs.Parts.{boundary}
 use Rattle.dfs_table.specs.declared.run.Run.{Run}
 use Rattle.dfs_table.specs.Counts.{count_of}
+use Rattle.dfs_table.specs.Cut.{IsCut, tables_needed}
+use Rattle.dfs_table.proofs.Cutting.{needed_few}
 use Rattle.dfs_table.specs.Stored.{IsBlockOf, IsStored, records_at, records_by, run_records}
 use Rattle.dfs_table.specs.Tables.{all_fences}
 use Rattle.dfs_table.proofs.Rising.{all_blocks, all_records}
@@ -149,3 +151,13 @@ module _ (files : Files) (file : ℕ) (c : CompactionState) (ds : List Delta) (i
         ap length (merged_part_is (boundary c.keys c.parts p) (boundary c.keys c.parts (p + 1)) ds),
         ap (λ i. length (part (boundary c.keys c.parts p) (boundary c.keys c.parts i) whole)) next,
       )
+
+-- ---- the tables that a part needs
+
+-- each table but the last is full, and each block has a record
+pub enough_by : {E : Type 0} (rs : List Record) (result : Result Run E) → IfOk result (λ (run : Run). IsCut rs run.tables) → IfOk result (λ (run : Run). count_of (all_fences run.tables) ≡ length rs) → IfOk result (λ (run : Run). 4096 * length run.tables ≤ count_of (all_fences run.tables) + 4095)
+enough_by rs (Err e) cut count = tt
+enough_by rs (Ok run) cut count = omega (arith, cut.needed, needed_few rs, count)
+
+pub more_by : (rs : List Record) {tables most : ℕ} → tables < tables_needed rs → length rs ≤ most → 4096 * tables < most
+more_by rs many few = omega (arith, many, needed_few rs, few)

@@ -9,7 +9,6 @@ use Rattle.std.proofs.lemmas.Option.{same_Some, slice_get-get_or}
 use Rattle.dfs_host.specs.Host.{HostState, Told, bytes_of, Only}
 use Rattle.dfs_record.specs.Delta.{Delta, delta}
 use Rattle.dfs_record.specs.Records.{Files}
-use Rattle.dfs_plan.specs.Parts.{boundary}
 use Rattle.dfs_table.specs.declared.run.Run.{Run}
 use Rattle.dfs_table.specs.declared.table.Table.{Table}
 use Rattle.dfs_table.specs.Cut.{IsCut}
@@ -18,8 +17,8 @@ use Rattle.dfs_table.specs.Writer.{AreIn}
 use Rattle.dfs_table.proofs.Stays.{all_append, all_behind, all_front, run_stays, tables_stay}
 use Rattle.dfs_compact.specs.declared.compaction.Parted.{Parted}
 use Rattle.dfs_compact.specs.declared.compaction.Parted.TheVariants.{Merged, Last, Range, Done}
-use Rattle.dfs_compact.specs.Compaction.{CompactionState, HasOutcome, Stands, part_of}
-use Rattle.dfs_compact.specs.Parts.{AreSources, IsSource, merged_part, tables_in, tables_of}
+use Rattle.dfs_compact.specs.Compaction.{CompactionState, HasOutcome, IsWritten, Stands, part_of}
+use Rattle.dfs_compact.specs.Parts.{AreSources, IsSource, tables_in, tables_of}
 
 -- ---- one part in its place
 
@@ -50,6 +49,12 @@ never_done c Merged has e = absurd (cc e)
 never_done c Last has e = absurd (cc e)
 never_done c Range has e = has
 never_done c Done has e = has
+
+pub written_by : (c : CompactionState) (p : Parted) → HasOutcome c p → IsWritten p
+written_by c Merged has = tt
+written_by c Last has = tt
+written_by c Range has = has
+written_by c Done has = has
 
 -- of the new element and the others
 pub set_at : {A : Type 0} (xs : List A) (index : ℕ) (v : A) (P : ℕ → A → Type 0) → P index v → ((i : ℕ) (x : A) → slice_get xs i ≡ Some x → P i x)

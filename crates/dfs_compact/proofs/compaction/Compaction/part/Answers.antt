@@ -1,19 +1,22 @@
-use Rattle.std.proofs.Common.{inl, inr, ◌≡◌, ◌∙◌, refl, sym, ap, subst, arith, length, map, List, true, false, Global}
+use Rattle.std.proofs.Common.{inl, inr, ◌≡◌, ◌≤◌, ◌+◌, ◌*◌, ◌∙◌, refl, sym, ap, subst, arith, length, map, List, true, false, Global}
 use Rattle.std.specs.declared.rc.Rc.{Rc}
 use Rattle.dfs_host.specs.Host.{bytes_of}
 use Rattle.std.specs.Prelude.{Some, Option, slice_get}
+use Rattle.std.specs.List.{sum_by}
 use Rattle.std.proofs.lemmas.Option.{same_Some}
 use Rattle.std.proofs.lemmas.Result.{err_from_is_err_and}
 use Rattle.dfs_table.specs.declared.run.Run.{Run}
 use Rattle.dfs_table.specs.declared.table.Table.{Table}
 use Rattle.dfs_table.specs.Counts.{count_of}
 use Rattle.dfs_table.specs.Tables.{all_fences}
-use Rattle.dfs_table.specs.Writer.{AreIn}
-use Rattle.dfs_compact.specs.Compaction.{CompactionState, IsMerged, Stands}
+use Rattle.dfs_table.specs.Cut.{tables_needed}
+use Rattle.dfs_table.proofs.Cutting.{needed_few}
+use Rattle.dfs_table.specs.Writer.{AreIn, table_len}
+use Rattle.dfs_compact.specs.Compaction.{CompactionState, IsMerged, IsPastWith, Stands, part_of}
 use Rattle.dfs_compact.specs.Parts.{AreSources, count_all, tables_of}
 use Rattle.dfs_compact.proofs.Counting.{few_in_all, few_with_next, set_counted}
 use Rattle.dfs_compact.proofs.Covering.{join_few}
-use Rattle.dfs_compact.proofs.Staying.{merged_there, never_done, none_there, not_merged, set_all, set_here, set_tables, stands_on, stands_still}
+use Rattle.dfs_compact.proofs.Staying.{merged_there, never_done, none_there, not_merged, set_all, set_here, set_sum, set_tables, stands_on, stands_still, written_by}
 use Rattle.dfs_compact.proofs.compaction.Compaction.part.Goals as goal
 
 pub keep-requires-clause-within : goal.keep-requires-clause-within
@@ -174,3 +177,83 @@ returns-in_err-run-clause-overfull g c = λ ds tells stands is.
       | inl some ↦ inl some
       | inr many ↦ inr (omega (arith, many, needed_few (part_of state ds c.args.part), next, join_few self.merged.items (λ j run at. (c.self.invariant.0.each j run at).enough), c.self.invariant.0.len, c.self.invariant.1, c.self.invariant.0.tables, ap (λ (s : CompactionState). count_of (all_fences (tables_of s.merged))) c.self.view_is, ap (λ (s : CompactionState). count_all s.sources) c.self.view_is, ap (λ (s : CompactionState). s.parts) c.self.view_is))
     ]
+
+pub returns-in_err-run-clause-past : goal.returns-in_err-run-clause-past
+returns-in_err-run-clause-past g c = λ ds tells stands is.
+    let self = c.self.inside in
+    let state : CompactionState = record { sources = map (λ r. r.value) self.sources.items; keys = self.plan.keys; parts = self.plan.parts; merged = self.merged.items; spent = self.spent } in
+    let files = bytes_of (g.H.Host.state c.args.host.now) in
+    let start = subst (λ (s : CompactionState). Stands files c.args.log.now.file s ds) (sym c.self.view_is) stands in
+    let there = none_there c.self.inside.merged.items c.args.part c.index.result.now (omega (arith, c.if-part-len.false, c.len-2.ensures)) c.index.ensures (sym c.is_some.ensures ∙ c.if-is_some.false) in
+    let sources = subst (λ (rs : List (Rc Run Global)). AreSources files (map (λ r. r.value) rs) ds) (sym c.deref.ensures.value) start.sources in
+    let p = err_from_is_err_and c.from_residual.result c.from_residual.ensures.1 in
+    elim (c.write_part.ensures.too_many ds tells sources (cc (is, c.in_err-run.was, p.1, p.2))) [
+      | inl some ↦ inl some
+      | inr many ↦ inr (subst (λ (s : CompactionState). IsPastWith s ds c.args.part) c.self.view_is (omega (arith, many, c.self.invariant.1, c.self.invariant.0.tables)))
+    ]
+
+pub returns-in_err-run-clause-growth_of_part : goal.returns-in_err-run-clause-growth_of_part
+returns-in_err-run-clause-growth_of_part g c = λ ds tells stands.
+    let self = c.self.inside in
+    let state : CompactionState = record { sources = map (λ r. r.value) self.sources.items; keys = self.plan.keys; parts = self.plan.parts; merged = self.merged.items; spent = self.spent } in
+    let files = bytes_of (g.H.Host.state c.args.host.now) in
+    let start = subst (λ (s : CompactionState). Stands files c.args.log.now.file s ds) (sym c.self.view_is) stands in
+    let there = none_there c.self.inside.merged.items c.args.part c.index.result.now (omega (arith, c.if-part-len.false, c.len-2.ensures)) c.index.ensures (sym c.is_some.ensures ∙ c.if-is_some.false) in
+    let sources = subst (λ (rs : List (Rc Run Global)). AreSources files (map (λ r. r.value) rs) ds) (sym c.deref.ensures.value) start.sources in
+    subst (λ (s : CompactionState). c.write_part.new.log.len + c.write_part.new.log.refused ≤ c.args.log.now.len + 1100 * length (part_of s ds c.args.part)) c.self.view_is (c.in_err-run.ensures.growth_of_part ds tells sources)
+
+pub returns-in_default-clause-growth_of_part : goal.returns-in_default-clause-growth_of_part
+returns-in_default-clause-growth_of_part g c = λ ds tells stands.
+    let self = c.self.inside in
+    let state : CompactionState = record { sources = map (λ r. r.value) self.sources.items; keys = self.plan.keys; parts = self.plan.parts; merged = self.merged.items; spent = self.spent } in
+    let files = bytes_of (g.H.Host.state c.args.host.now) in
+    let start = subst (λ (s : CompactionState). Stands files c.args.log.now.file s ds) (sym c.self.view_is) stands in
+    let there = none_there c.self.inside.merged.items c.args.part c.index.result.now (omega (arith, c.if-part-len.false, c.len-2.ensures)) c.index.ensures (sym c.is_some.ensures ∙ c.if-is_some.false) in
+    let sources = subst (λ (rs : List (Rc Run Global)). AreSources files (map (λ r. r.value) rs) ds) (sym c.deref.ensures.value) start.sources in
+    subst (λ (s : CompactionState). c.write_part.new.log.len + c.write_part.new.log.refused ≤ c.args.log.now.len + 1100 * length (part_of s ds c.args.part)) c.self.view_is (c.in_ok-run.ensures.growth_of_part ds tells sources)
+
+pub returns-clause-growth_of_part : goal.returns-clause-growth_of_part
+returns-clause-growth_of_part g c = λ ds tells stands.
+    let self = c.self.inside in
+    let state : CompactionState = record { sources = map (λ r. r.value) self.sources.items; keys = self.plan.keys; parts = self.plan.parts; merged = self.merged.items; spent = self.spent } in
+    let files = bytes_of (g.H.Host.state c.args.host.now) in
+    let start = subst (λ (s : CompactionState). Stands files c.args.log.now.file s ds) (sym c.self.view_is) stands in
+    let there = none_there c.self.inside.merged.items c.args.part c.index.result.now (omega (arith, c.if-part-len.false, c.len-2.ensures)) c.index.ensures (sym c.is_some.ensures ∙ c.if-is_some.false) in
+    let sources = subst (λ (rs : List (Rc Run Global)). AreSources files (map (λ r. r.value) rs) ds) (sym c.deref.ensures.value) start.sources in
+    subst (λ (s : CompactionState). c.write_part.new.log.len + c.write_part.new.log.refused ≤ c.args.log.now.len + 1100 * length (part_of s ds c.args.part)) c.self.view_is (c.in_ok-run.ensures.growth_of_part ds tells sources)
+
+pub returns-clause-needed : goal.returns-clause-needed
+returns-clause-needed g c = λ ds tells stands written.
+    let self = c.self.inside in
+    let state : CompactionState = record { sources = map (λ r. r.value) self.sources.items; keys = self.plan.keys; parts = self.plan.parts; merged = self.merged.items; spent = self.spent } in
+    let files = bytes_of (g.H.Host.state c.args.host.now) in
+    let start = subst (λ (s : CompactionState). Stands files c.args.log.now.file s ds) (sym c.self.view_is) stands in
+    let there = none_there c.self.inside.merged.items c.args.part c.index.result.now (omega (arith, c.if-part-len.false, c.len-2.ensures)) c.index.ensures (sym c.is_some.ensures ∙ c.if-is_some.false) in
+    let sources = subst (λ (rs : List (Rc Run Global)). AreSources files (map (λ r. r.value) rs) ds) (sym c.deref.ensures.value) start.sources in
+    let same = ap (λ (s : CompactionState). s.merged) (c.self-2.view_is ∙ c.in-Ok.ensures.kept) in
+    omega (
+      arith,
+      (c.in_ok-run.ensures.cut ds tells sources).needed,
+      ap (λ (ms : List (Option Run)). length (tables_of ms)) same,
+      set_tables c.self.inside.merged.items c.args.part c.in_ok-run.run' there,
+      ap (λ (s : CompactionState). length (tables_of s.merged)) c.self.view_is,
+      ap (λ (s : CompactionState). tables_needed (part_of s ds c.args.part)) c.self.view_is,
+    )
+
+pub returns-clause-too_many : goal.returns-clause-too_many
+returns-clause-too_many g c = λ ds tells stands many.
+    let after = c.self-2.inside in
+    let state : CompactionState = record { sources = map (λ r. r.value) after.sources.items; keys = after.plan.keys; parts = after.plan.parts; merged = after.merged.items; spent = false } in
+    absurd (omega (arith, many, returns-clause-needed g c ds tells stands (written_by state c.outcome.result c.outcome.ensures), c.self-2.invariant.0.tables))
+
+pub returns-clause-wrote : goal.returns-clause-wrote
+returns-clause-wrote g c =
+    let same = ap (λ (s : CompactionState). s.merged) (c.self-2.view_is ∙ c.in-Ok.ensures.kept) in
+    let there = none_there c.self.inside.merged.items c.args.part c.index.result.now (omega (arith, c.if-part-len.false, c.len-2.ensures)) c.index.ensures (sym c.is_some.ensures ∙ c.if-is_some.false) in
+    omega (
+      arith,
+      c.in_ok-run.ensures.wrote,
+      ap (λ (ms : List (Option Run)). sum_by table_len (tables_of ms)) same,
+      set_sum table_len c.self.inside.merged.items c.args.part c.in_ok-run.run' there,
+      ap (λ (s : CompactionState). sum_by table_len (tables_of s.merged)) c.self.view_is,
+    )

@@ -27,7 +27,7 @@ set_here [] i v x at = absurd cc
 set_here (y ∷ xs) zero v x at = same_Some v x at
 set_here (y ∷ xs) (suc i) v x at = set_here xs i v x at
 
-set_other : {A : Type 0} (xs : List A) (i j : ℕ) (v : A) → (j ≡ i → ⊥) → slice_get (slice_set xs i v) j ≡ slice_get xs j
+pub set_other : {A : Type 0} (xs : List A) (i j : ℕ) (v : A) → (j ≡ i → ⊥) → slice_get (slice_set xs i v) j ≡ slice_get xs j
 set_other [] i j v not = refl
 set_other (y ∷ xs) zero zero v not = absurd (not refl)
 set_other (y ∷ xs) zero (suc j) v not = refl

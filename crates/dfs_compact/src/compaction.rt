@@ -137,7 +137,7 @@ impl Compaction {
 
         // `LogFull` exactly where the log refused a piece or, with the part, the run of all parts would pass 131,072 tables, but for
         // want of memory and a disk fault.
-        ensures past { (ds : List Delta) → Told (H.state host.old) (Stands (bytes_of (H.state host.old)) log.old.file self.old ds → IsErrOf result Fault.LogFull → (0 < log.new.refused) ⊎ IsPastWith self.old ds part) }
+        ensures passes { (ds : List Delta) → Told (H.state host.old) (Stands (bytes_of (H.state host.old)) log.old.file self.old ds → IsErrOf result Fault.LogFull → (0 < log.new.refused) ⊎ IsPastWith self.old ds part) }
         ensures too_many { (ds : List Delta) → Told (H.state host.old) (Stands (bytes_of (H.state host.old)) log.old.file self.old ds → IsPastWith self.old ds part → IfOk result IsRefusal) }
         ensures needed { (ds : List Delta) → Told (H.state host.old) (Stands (bytes_of (H.state host.old)) log.old.file self.old ds → IfOk result (λ done. IsWritten done → length (tables_of self.new.merged) ≡ length (tables_of self.old.merged) + tables_needed (part_of self.old ds part))) }
         // What bounds that by counts, on every host and where it stands: a full table has 4,096 blocks, and each a record at least.

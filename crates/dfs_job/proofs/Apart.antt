@@ -60,7 +60,7 @@ plans_still : (old new : HostState) (file : ℕ) (j : Job) (o : Option UnderWay)
 plans_still old new file j None None same stand = tt
 plans_still old new file j None (Some p) same stand = absurd stand
 plans_still old new file j (Some u) None same stand = absurd stand
-plans_still old new file j (Some u) (Some p) same stand = record { scope = stand.scope; covered = stand.covered; merged = stand.merged; parts = subst (λ b. PartsAreStored b u.compaction (covered_changes p j)) (sym same) stand.parts }
+plans_still old new file j (Some u) (Some p) same stand = record { scope = stand.scope; covered = stand.covered; merged = stand.merged; parts = subst (λ b. PartsAreStored b u.compaction (covered_changes p j)) (sym same) stand.parts; cut = stand.cut }
 
 pub stands_still : (old new : HostState) (live : LiveJob) (j : Job) → bytes_of new live.layers.log.file ≡ bytes_of old live.layers.log.file → AllByRecursion (ReadsSame old new) (selected live.layers) → JobStands old live j → JobStands new live j
 stands_still old new live j same others stands =

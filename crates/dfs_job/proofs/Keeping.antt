@@ -30,7 +30,7 @@ use Rattle.dfs_job.specs.declared.settings.Settings.{Settings}
 use Rattle.dfs_job.specs.declared.job.Job.{Job as LiveJob}
 use Rattle.dfs_job.specs.declared.planning.UnderWay.{UnderWay}
 use Rattle.dfs_job.specs.Job.{Job, Plan, after, after_flush, basis_covered, begun, covered_changes, does, first_ids, need}
-use Rattle.dfs_job.specs.Stands.{AreSettings, IsEarlier, IsFair, IsInAccount, IsSelectable, IsStoredFor, JobIsFit, JobStands, PlansAreFit, PlansStand, StandsForOne, basis_count, basis_runs, merged_count, own_count, under_way}
+use Rattle.dfs_job.specs.Stands.{AreSettings, IsEarlier, IsFair, IsInAccount, IsSelectable, IsStoredFor, JobIsFit, JobStands, PlansAreFit, PlansStand, StandsForOne, basis_count, basis_runs, merged_count, own_count, under_way, PartsAreCut}
 use Rattle.dfs_job.proofs.Apart.{AgreeBut, agree_but, basis_apart, basis_still_lies}
 use Rattle.dfs_job.proofs.Fair.{fair_after, fair_begun, fair_flushed}
 use Rattle.dfs_job.proofs.Layers.{added_all, flushed_all}
@@ -139,6 +139,7 @@ plans_after host host_after file len old j k more basis closed as_many kept (Som
       parts = λ i run at.
           subst (λ ds. IsStored (bytes_of host_after file) run (delta (merged_part (boundary u.compaction.keys u.compaction.parts i) (boundary u.compaction.keys u.compaction.parts (i + 1)) ds))) (sym changes)
           (stored_on (bytes_of host file) (bytes_of host_after file) len run _ kept (stand.parts i run at));
+      cut = subst (PartsAreCut u.compaction) (sym changes) stand.cut;
     }
 
 module _ (host host_after : HostState) (old new : LiveJob) (j : Job) (tells : IsTrue host.tells) (fit : JobIsFit old) (stands : JobStands host old j) (only : Only old.ids.job host host_after) (stand : Stand host_after new.layers)

@@ -19,7 +19,7 @@ use Rattle.dfs_table.specs.Writer.{AreIn}
 use Rattle.dfs_table.proofs.Stays.{all_weaker, tables_stay}
 use Rattle.dfs_compact.specs.declared.compaction.Parted.{Parted}
 use Rattle.dfs_compact.specs.declared.compaction.Parted.TheVariants as parted
-use Rattle.dfs_compact.specs.Compaction.{AreMerged, CompactionState, IsAdded, IsMerged, IsOverfull, IsRefusal, IsWritten, Stands as CompactionStands}
+use Rattle.dfs_compact.specs.Compaction.{AreMerged, CompactionState, IsAdded, IsMerged, IsOverfull, IsPastWith, IsRefusal, IsWritten, Stands as CompactionStands}
 use Rattle.dfs_compact.specs.Parts.{AreSources, count_all, tables_of}
 use Rattle.dfs_compact.proofs.Staying.{stored_on}
 use Rattle.dfs_view.specs.Layers.{AreStored, LiesIn, own_runs, selected}
@@ -29,8 +29,8 @@ use Rattle.dfs_job.specs.declared.answers.JobPart.TheVariants.{Merged, Last, NoP
 use Rattle.dfs_job.specs.declared.job.Job.{Job as LiveJob}
 use Rattle.dfs_job.specs.declared.planning.UnderWay.{UnderWay}
 use Rattle.dfs_job.specs.Job.{Job, Plan, basis_covered, covered_changes, joined_as, marked, merged_as, need, part_answer_of, parted_as, with_part}
-use Rattle.dfs_job.specs.Parted.{answer_by}
-use Rattle.dfs_job.specs.Stands.{JobIsFit, JobStands, PlanIsFit, PlanStands, PartsAreStored, PlansAreFit, PlansStand, merged_count, merges_too_many, plan_count, plan_tables, under_way}
+use Rattle.dfs_job.specs.Parted.{IsRefusedPart, answer_by}
+use Rattle.dfs_job.specs.Stands.{JobIsFit, JobStands, PlanIsFit, PlanStands, PartsAreStored, PassesWith, PlansAreFit, PlansStand, merged_count, merges_too_many, plan_count, plan_tables, under_way}
 use Rattle.dfs_job.proofs.Apart.{agree_but, basis_apart, basis_still_lies}
 use Rattle.dfs_job.proofs.Keeping.{earlier_apart, too_many_short, within_need}
 use Rattle.dfs_job.proofs.Plans.{covered_counted, covered_sources}
@@ -147,6 +147,7 @@ module _ (old : LiveJob) (u : UnderWay) (fit : JobIsFit old) (under : old.plan �
           (subst (λ rs. AreSources (bytes_of host) rs (basis_covered u.scope j.basis ++ map delta (take u.covered j.layers.closed))) (sym plan_fit.sources) (covered_sources host old j u.scope u.covered stands));
       inside = subst (λ n. AreIn n (tables_of u.compaction.merged)) (sym fit.file) plan_fit.inside;
       each = plan_stand.parts;
+      cut = plan_stand.cut;
     }
 
     -- no more records were merged than the job has
@@ -219,6 +220,7 @@ module _ (old : LiveJob) (u : UnderWay) (c : CompactionState) (log : LogState) (
         covered = (plan_stand old u fit under host j p stands plan).covered;
         merged = marked_is p u.compaction c part (plan_stand old u fit under host j p stands plan).merged (plan_fit old u fit under).len added;
         parts = subst (λ n. PartsAreStored (bytes_of host_after n) c (covered_changes p j)) (sym file) after.each;
+        cut = after.cut;
       };
       fair = record { seen = stands.fair.seen; own = stands.fair.own; basis = stands.fair.basis; few = stands.fair.few };
       account = record {
@@ -276,6 +278,17 @@ module _ (old : LiveJob) (u : UnderWay) (fit : JobIsFit old) (under : old.plan �
           | inr many ↦ overfull_short old u fit under host j p stands plan many
         ]
 
+    -- with the part its run would pass the most tables
+    pub part_passes : (part : ℕ) {refused : ℕ} → ((ds : List Delta) → CompactionStands (bytes_of host) old.layers.log.file u.compaction ds → (0 < refused) ⊎ IsPastWith u.compaction ds part) → (0 < refused) ⊎ PassesWith old.plan j.plan j part
+    part_passes part past = elim (past (covered_changes held.0 j) (compaction_stands old u fit under host j held.0 stands held.1)) [
+      | inl some ↦ inl some
+      | inr many ↦ inr (subst (λ o. PassesWith o j.plan j part) (sym under) (subst (λ q. PassesWith (Some u) q j part) (sym held.1) many))
+    ]
+
+    pub part_passed : (part : ℕ) (P : Type 0) → ((ds : List Delta) → CompactionStands (bytes_of host) old.layers.log.file u.compaction ds → IsPastWith u.compaction ds part → P) → PassesWith old.plan j.plan j part → P
+    part_passed part P past many =
+        past (covered_changes held.0 j) (compaction_stands old u fit under host j held.0 stands held.1) (subst (λ q. PassesWith (Some u) q j part) held.1 (subst (λ o. PassesWith o j.plan j part) under many))
+
     module _ (c_after : CompactionState) (part : ℕ) {E : Type 0} (result : Result Parted E) (parts_of : (result ≡ Ok parted.Range) ↔ (u.compaction.parts ≤ part)) (merged_of : (result ≡ Ok parted.Done) ↔ IsMerged u.compaction part)
         (last : result ≡ Ok parted.Last → AreMerged c_after) (some : result ≡ Ok parted.Merged → AreMerged c_after → ⊥) where
       marked_so : held.0.merged ≡ map is_some u.compaction.merged
@@ -330,3 +343,10 @@ not_last Done j part not = refl
 pub joined_marked : (j : Job) (part : ℕ) (q : Option Plan) → j.plan ≡ q → joined_as (marked q part) (record j { plan = marked q part }) ≡ joined_as q j
 joined_marked j part None e = λ i. record j { plan = sym e i }
 joined_marked j part (Some p) e = refl
+
+-- a part that is refused answers so
+pub refused_part : (a : Parted) → IsRefusal a → IsRefusedPart (answer_by a)
+refused_part parted.Merged is = is
+refused_part parted.Last is = is
+refused_part parted.Range is = tt
+refused_part parted.Done is = tt

@@ -10,6 +10,7 @@ use Rattle.dfs_host.specs.Fault.{NoFault}
 use Rattle.dfs_host.specs.Host.{HostState, Told, bytes_of}
 use Rattle.dfs_host.proofs.Causes.{none_yet}
 use Rattle.dfs_host.proofs.Moments.{reads_nothing, reads_only}
+use Rattle.dfs_record.specs.declared.Key.{Key}
 use Rattle.dfs_record.specs.declared.Record.{Record}
 use Rattle.dfs_record.specs.Delta.{Delta, delta, merged as merged_list, records_of}
 use Rattle.dfs_record.specs.Records.{Files}
@@ -17,14 +18,16 @@ use Rattle.dfs_record.proofs.Replays.{delta-records_of}
 use Rattle.dfs_log.specs.Logs.{LogState, LogStands}
 use Rattle.dfs_table.specs.declared.run.Run.{Run}
 use Rattle.dfs_table.specs.Appending.{Appends}
+use Rattle.dfs_plan.specs.Parts.{boundary}
 use Rattle.dfs_table.specs.Counts.{count_of}
+use Rattle.dfs_table.specs.Cut.{tables_needed}
 use Rattle.dfs_table.specs.Tables.{all_fences}
 use Rattle.dfs_table.specs.Writer.{AreIn}
 use Rattle.dfs_compact.specs.declared.compaction.Parted.{Parted}
 use Rattle.dfs_compact.specs.declared.compaction.Parted.TheVariants.{Merged, Last, Range, Done}
 use Rattle.dfs_compact.specs.Compaction.{AreMerged, CompactionState, IsAdded, IsMerged, IsRefusal, IsWritten, Stands}
-use Rattle.dfs_compact.specs.Parts.{AreSources, count_all, tables_of}
-use Rattle.dfs_compact.proofs.Staying.{set_length}
+use Rattle.dfs_compact.specs.Parts.{AreSources, count_all, merged_part, tables_below, tables_of}
+use Rattle.dfs_compact.proofs.Staying.{set_length, set_other}
 use Rattle.dfs_view.specs.Layers.{AreStored}
 use Rattle.dfs_view.specs.View.{IsOwnRun}
 use Rattle.dfs_job.specs.Stands.{may_pass}
@@ -54,13 +57,31 @@ pub none_refused : (n : ℕ) → (0 < n → ⊥) → n ≡ 0
 none_refused zero not = refl
 none_refused (suc n) not = absurd (not (omega arith))
 
+none_has : (n k : ℕ) → IsSomeAnd (slice_get (replicate n None) k) (λ (m : Option Run). IsSome m) → ⊥
+none_has zero k is = absurd is
+none_has (suc n) zero is = absurd (cc is)
+none_has (suc n) (suc k) is = none_has n k is
+
+pub below_more : (keys : List Key) (parts : ℕ) (ds : List Delta) (i n : ℕ) → i ≤ n → tables_below keys parts ds i ≤ tables_below keys parts ds n
+below_more keys parts ds i zero le = omega (arith, ap (tables_below keys parts ds) (none_refused i (λ some. absurd (omega (arith, le, some)))))
+below_more keys parts ds i (suc n) le = by (nat_lt n i) refl (below_more keys parts ds i n)
+  where
+    by : (b : Bool) → nat_lt n i ≡ b → (i ≤ n → tables_below keys parts ds i ≤ tables_below keys parts ds n) → tables_below keys parts ds i ≤ tables_below keys parts ds (suc n)
+    by true e before = let same : i ≡ suc n = omega (arith, le, ltb-true n i e) in omega (arith, ap (tables_below keys parts ds) same)
+    by false e before = omega (arith, before (omega (arith, ltb-false n i e)))
+
+pub one_below : (keys : List Key) (parts : ℕ) (ds : List Delta) (i : ℕ) → tables_below keys parts ds (i + 1) ≡ tables_below keys parts ds i + tables_needed (merged_part (boundary keys parts i) (boundary keys parts (i + 1)) ds)
+one_below keys parts ds i = let next : i + 1 ≡ suc i = omega arith in ap (tables_below keys parts ds) next
+
 -- ---- the parts up to one
 
 -- The parts before this one were merged.
 pub record IsMerging (start now : HostState) (log_start log : LogState) (old c : CompactionState) (done : ℕ) : Type 0 where
   pub merged : (k : ℕ) → k < done → IsMerged c k
+  pub left_out : (k : ℕ) → done ≤ k → IsMerged c k → ⊥
   pub len : length c.merged ≡ c.parts
   pub sources : c.sources ≡ old.sources
+  pub keys : c.keys ≡ old.keys
   pub parts : c.parts ≡ old.parts
   pub live : IsFalse c.spent
   pub log_live : IsFalse log.spent
@@ -69,6 +90,7 @@ pub record IsMerging (start now : HostState) (log_start log : LogState) (old c :
   pub log_stands : Told start (LogStands now log)
   pub stands : (ds : List Delta) → Told start (Stands (bytes_of start) log_start.file old ds → Stands (bytes_of now) log_start.file c ds)
   pub few : (ds : List Delta) → Told start (Stands (bytes_of start) log_start.file old ds → count_of (all_fences (tables_of c.merged)) ≤ count_all old.sources)
+  pub needed : (ds : List Delta) → Told start (Stands (bytes_of start) log_start.file old ds → length (tables_of c.merged) ≡ tables_below old.keys old.parts ds done)
   pub tables : 4096 * length (tables_of c.merged) ≤ done * (count_all old.sources + 4095)
   pub growth : log.len ≤ log_start.len + 1100 * count_of (all_fences (tables_of c.merged))
   pub left : Appends start now log_start log
@@ -81,8 +103,10 @@ none_yet_merged start log old parts none many live log_live refused stands =
     let tables = ap tables_of none ∙ no_tables parts in
     record {
       merged = λ k within. absurd (omega (arith, within));
+      left_out = λ k le is. none_has parts k (subst (λ ms. IsSomeAnd (slice_get ms k) IsSome) none is);
       len = ap length none ∙ length-replicate parts None ∙ sym many;
       sources = refl;
+      keys = refl;
       parts = refl;
       live = live;
       log_live = log_live;
@@ -91,6 +115,7 @@ none_yet_merged start log old parts none many live log_live refused stands =
       log_stands = stands;
       stands = λ ds tells held. held;
       few = λ ds tells held. omega (arith, ap (λ ts. count_of (all_fences ts)) tables);
+      needed = λ ds tells held. ap length tables;
       tables = omega (arith, ap length tables);
       growth = omega arith;
       left = record {
@@ -118,6 +143,12 @@ module _ {E : Type 0} (c c_now : CompactionState) (done : ℕ) (result : Result 
     | inr one ↦ ap (λ (s : CompactionState). length s.merged) one.same ∙ set_length c.merged done (Some one.run) ∙ len ∙ sym parts
   ]
 
+  pub left_on : ((k : ℕ) → done ≤ k → IsMerged c k → ⊥) → (k : ℕ) → done + 1 ≤ k → IsMerged c_now k → ⊥
+  left_on left k le is = elim (written answer refused added) [
+    | inl same ↦ left k (omega (arith, le)) (subst (λ (s : CompactionState). IsMerged s k) same is)
+    | inr one ↦ left k (omega (arith, le)) (subst (λ o. IsSomeAnd o IsSome) (set_other c.merged done k (Some one.run) (λ e. absurd (omega (arith, e, le)))) (subst (λ (s : CompactionState). IsMerged s k) one.same is))
+  ]
+
   pub few_on : (most : ℕ) → count_of (all_fences (tables_of c.merged)) ≤ most → (IsWritten answer → count_of (all_fences (tables_of c_now.merged)) ≤ most) → count_of (all_fences (tables_of c_now.merged)) ≤ most
   few_on most before after = by answer refused after
     where
@@ -140,6 +171,16 @@ module _ {E : Type 0} (c c_now : CompactionState) (done : ℕ) (result : Result 
 
     was_one : (k : ℕ) → (k ≡ done) ⊎ (k < done) → c_now ≡ c → IsMerged c done → IsMerged c_now k
     was_one k where_ same is = subst (λ (s : CompactionState). IsMerged s k) (sym same) (elim where_ [ inl here ↦ subst (IsMerged c) (sym here) is | inr below ↦ before k below ])
+
+    -- a part that was left out is merged now
+    pub written_now : (IsMerged c done → ⊥) → IsWritten answer
+    written_now new = by answer was
+      where
+        by : (a : Parted) → result ≡ Ok a → IsWritten a
+        by Merged was = tt
+        by Last was = tt
+        by Range was = absurd (omega (arith, within, range.0 was))
+        by Done was = absurd (new (again.0 was))
 
     pub merged_on : (k : ℕ) → k < done + 1 → IsMerged c_now k
     merged_on k below = by answer was refused added

@@ -181,6 +181,7 @@ module _ (old : LiveJob) (scope : Scope) (c : CompactionState) (parts n : ℕ) (
           covered = sym (stored_lengths (bytes_of host old.layers.log.file) (own_runs old.layers) j.layers.closed stands.layers.closed) ∙ sym all;
           merged = none_merged parts ∙ ap (map is_some) (sym merged);
           parts = λ i run at. absurd (none_at parts i run (subst (λ ms. slice_get ms i ≡ Some (Some run)) merged at));
+          cut = λ i run at. absurd (none_at parts i run (subst (λ ms. slice_get ms i ≡ Some (Some run)) merged at));
         };
         fair = record { seen = stands.fair.seen; own = stands.fair.own; basis = stands.fair.basis; few = stands.fair.few };
         account = record {

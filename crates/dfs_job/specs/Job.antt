@@ -70,6 +70,10 @@ after_flush j = record j { layers = flushed j.layers }
 abbrev pub own_changes : Job → Delta
 own_changes j = delta (joined j.layers)
 
+-- the change sets of its closed layers, the oldest first
+abbrev pub layer_changes : Job → List Delta
+layer_changes j = map delta j.layers.closed
+
 -- the number of closed layers, and that of their keys, each layer's counted by itself
 abbrev pub run_count : Job → ℕ
 run_count j = length j.layers.closed

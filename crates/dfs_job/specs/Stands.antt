@@ -1,18 +1,21 @@
 -- What a job in memory and the files of a host stand for, and what is so of every job.
 use Rattle.std.specs.Prelude.{◌≡◌, ◌≤◌, ◌<◌, ◌+◌, ◌-◌, ◌*◌, ◌++◌, ℕ, Bool, nat_lt, List, [], length, map, slice_get, take, is_some, Option, Some, None, IsSomeAnd, IsFalse}
 use Rattle.std.specs.List.{AllByRecursion, AllZip, sum_by}
+use Rattle.std.specs.List.Sorted.{IsPermutation}
 use Rattle.dfs_host.specs.Host.{HostState, Told, bytes_of}
+use Rattle.dfs_record.specs.declared.Key.{Key}
 use Rattle.dfs_record.specs.Delta.{Delta, delta}
 use Rattle.dfs_path.specs.declared.Scope.{Scope}
 use Rattle.dfs_path.specs.declared.Scope.TheVariants.{Own, All}
 use Rattle.dfs_table.specs.Counts.{count_of}
+use Rattle.dfs_table.specs.Cut.{IsCut}
 use Rattle.dfs_table.specs.Stored.{IsStored}
 use Rattle.dfs_table.specs.Tables.{all_fences}
 use Rattle.dfs_table.specs.Writer.{AreIn}
 use Rattle.dfs_table.specs.declared.run.Run.{Run}
-use Rattle.dfs_plan.specs.Parts.{boundary}
-use Rattle.dfs_compact.specs.Compaction.{AreMerged, CompactionState}
-use Rattle.dfs_compact.specs.Parts.{count_all, merged_part, tables_of}
+use Rattle.dfs_plan.specs.Parts.{AreSorted}
+use Rattle.dfs_compact.specs.Compaction.{AreMerged, CompactionState, IsPastWith, part_of}
+use Rattle.dfs_compact.specs.Parts.{count_all, first_keys, tables_below, tables_of}
 use Rattle.dfs_change.specs.declared.change.Change.{Change}
 use Rattle.dfs_change.specs.Identities.{AreFit as AreOfJob}
 use Rattle.dfs_ops.specs.Op.{AreIds}
@@ -95,7 +98,11 @@ PlansAreFit job (Some u) = PlanIsFit job u
 
 -- each part that was merged is stored for the merged list of its range of these change sets
 abbrev pub PartsAreStored : List ℕ → CompactionState → List Delta → Type 0
-PartsAreStored file c ds = (i : ℕ) (run : Run) → slice_get c.merged i ≡ Some (Some run) → IsStored file run (delta (merged_part (boundary c.keys c.parts i) (boundary c.keys c.parts (i + 1)) ds))
+PartsAreStored file c ds = (i : ℕ) (run : Run) → slice_get c.merged i ≡ Some (Some run) → IsStored file run (delta (part_of c ds i))
+
+-- and it has the tables that this list needs
+abbrev pub PartsAreCut : CompactionState → List Delta → Type 0
+PartsAreCut c ds = (i : ℕ) (run : Run) → slice_get c.merged i ≡ Some (Some run) → IsCut (part_of c ds i) run.tables
 
 -- It stands for the plan of the plain job: the parts that were merged are stored in the job's file for what the plan covers. (Its
 -- sources are stored there and in the logs of the selected change sets, as runs of the job.)
@@ -104,6 +111,7 @@ pub record PlanStands (host : HostState) (file : ℕ) (j : Job) (u : UnderWay) (
   pub covered : p.covered ≡ u.covered
   pub merged : p.merged ≡ map is_some u.compaction.merged
   pub parts : PartsAreStored (bytes_of host file) u.compaction (covered_changes p j)
+  pub cut : PartsAreCut u.compaction (covered_changes p j)
 
 abbrev pub PlansStand : HostState → ℕ → Job → Option UnderWay → Option Plan → Type 0
 PlansStand host file j None None = Unit {0}
@@ -135,6 +143,20 @@ plan_tables (Some u) = length (tables_of u.compaction.merged)
 abbrev pub plan_count : Option UnderWay → ℕ
 plan_count None = 0
 plan_count (Some u) = count_all u.compaction.sources
+
+-- With this part, the run of all parts of the plan under way would pass 131,072 tables.
+abbrev pub PassesWith : Option UnderWay → Option Plan → Job → ℕ → Type 0
+PassesWith None q j part = ⊥
+PassesWith (Some u) None j part = ⊥
+PassesWith (Some u) (Some p) j part = IsPastWith u.compaction (covered_changes p j) part
+
+-- The run of these change sets, which are merged in so many parts, would pass 131,072 tables. What cuts them is the first keys of the
+-- blocks of the runs that they are stored in.
+pub record Passes (runs : List Run) (parts : ℕ) (ds : List Delta) : Type 0 where
+  pub keys : List Key
+  pub sorted : AreSorted keys
+  pub firsts : IsPermutation (first_keys runs) keys
+  pub many : 131072 < tables_below keys parts ds parts
 
 -- So many records, merged in so many parts, may need more than the 131,072 tables of a run, which have 536,870,912 blocks: a part has
 -- at most all records and each block one at least, and of the tables of a part one at most is not full.

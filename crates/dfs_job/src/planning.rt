@@ -34,7 +34,8 @@ impl Job {
     ghost use Rattle.dfs_host.specs.Host.{HostState, Told, Only};
     ghost use Rattle.dfs_view.specs.Layers.{Stand};
     ghost use Rattle.dfs_job.specs.Job.{Job as PlainJob, after_part, after_plan, joined_as, merged_as, need, part_answer, plan_answer, with_plan};
-    ghost use Rattle.dfs_job.specs.Stands.{IsWholePlan, JobIsFit, JobIsSound, JobStands, merges_too_many, plan_count};
+    ghost use Rattle.dfs_job.specs.Parted.{IsRefusedPart};
+    ghost use Rattle.dfs_job.specs.Stands.{IsWholePlan, JobIsFit, JobIsSound, JobStands, PassesWith, merges_too_many, plan_count};
 
     /// Begins a plan over the closed layers, with scope all over the selected change sets as well. It closes the open layer. Without
     /// a number of parts it has as many as the settings say. After a fault the job is spent.
@@ -127,7 +128,10 @@ impl Job {
         ensures settings { self.new.settings ≡ self.old.settings }
         // With the last part of a plan over the basis that becomes empty.
         ensures basis { (self.new.layers.basis.items ≡ self.old.layers.basis.items) ⊎ (self.new.layers.basis.items ≡ []) }
-        // `LogFull` where the log refused a piece, and else only where the run of the plan may need too many tables.
+        // `LogFull` exactly where the log refused a piece or, with the part, the run of the plan would pass 131,072 tables, but for want
+        // of memory and a disk fault; what bounds the tables by counts, on every host, is `full`.
+        ensures passes { (j : PlainJob) → Told (H.state host.old) (JobStands (H.state host.old) self.old j → IsErrOf result Fault.LogFull → (0 < self.new.layers.log.refused) ⊎ PassesWith self.old.plan j.plan j part) }
+        ensures too_many { (j : PlainJob) → Told (H.state host.old) (JobStands (H.state host.old) self.old j → PassesWith self.old.plan j.plan j part → IfOk result IsRefusedPart) }
         ensures full { IsErrOf result Fault.LogFull → (0 < self.new.layers.log.refused) ⊎ IsTrue (merges_too_many self.old) }
         ensures refuses { 0 < self.new.layers.log.refused → IsErrOf result Fault.LogFull }
         ensures short { (j : PlainJob) → Told (H.state host.old) (JobStands (H.state host.old) self.old j → IsErrOf result Fault.LogFull → j.settings.log_bytes < need j) }
@@ -164,6 +168,8 @@ impl Job {
         ensures number { self.new.ids ≡ self.old.ids }
         ensures settings { self.new.settings ≡ self.old.settings }
         ensures basis { self.new.layers.basis.items ≡ self.old.layers.basis.items }
+        ensures passes { (j : PlainJob) → Told (H.state host.old) (JobStands (H.state host.old) self.old j → IsErrOf result Fault.LogFull → (0 < self.new.layers.log.refused) ⊎ PassesWith self.old.plan j.plan j part) }
+        ensures too_many { (j : PlainJob) → Told (H.state host.old) (JobStands (H.state host.old) self.old j → PassesWith self.old.plan j.plan j part → IfOk result IsRefusedPart) }
         ensures full { IsErrOf result Fault.LogFull → (0 < self.new.layers.log.refused) ⊎ IsTrue (merges_too_many self.old) }
         ensures refuses { 0 < self.new.layers.log.refused → IsErrOf result Fault.LogFull }
         ensures short { (j : PlainJob) → Told (H.state host.old) (JobStands (H.state host.old) self.old j → IsErrOf result Fault.LogFull → j.settings.log_bytes < need j) }

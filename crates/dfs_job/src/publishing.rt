@@ -2,6 +2,7 @@
 
 ghost use Rattle.std.specs.Prelude.{◌≡◌, ◌≤◌, ◌<◌, ◌+◌, ◌*◌, ◌⊎◌, ◌↔◌, ℕ, List, IsFalse, IsTrue, IfOk, OnOk, IsErrOf, IsSomeAnd, Some, None, flat_map, map, replicate, slice_get, length};
 ghost use Rattle.std.specs.List.{AllByRecursion, sum_by};
+ghost use Rattle.std.specs.List.Sorted.{IsPermutation};
 ghost use Rattle.dfs_host.specs.Disk.{IsSettled};
 ghost use Rattle.dfs_host.specs.Fault.{HasFaultCause};
 ghost use Rattle.dfs_host.specs.Host.{Told, Only, bytes_of};
@@ -16,10 +17,11 @@ ghost use Rattle.dfs_view.specs.View.{IsOwnRun, closed_count};
 ghost use Rattle.dfs_table.specs.Stored.{IsStored};
 ghost use Rattle.dfs_table.specs.Writer.{AreIn};
 ghost use Rattle.dfs_compact.specs.Compaction.{AreMerged, IsOverfull, Stands as CompactionStands};
-ghost use Rattle.dfs_compact.specs.Parts.{AreSources, count_all, tables_of};
+ghost use Rattle.dfs_compact.specs.Parts.{AreSources, count_all, first_keys, tables_below, tables_of};
+ghost use Rattle.dfs_plan.specs.Parts.{AreSorted};
 ghost use Rattle.dfs_record.specs.Records.{Files};
 ghost use Rattle.dfs_job.specs.Sealed.{AreSealable, IsRunOfJob, IsSealable};
-ghost use Rattle.dfs_job.specs.Stands.{may_pass};
+ghost use Rattle.dfs_job.specs.Stands.{Passes, may_pass};
 
 use crate::Job;
 use crate::planning::add_runs;
@@ -41,8 +43,9 @@ impl Job {
     ghost use Rattle.dfs_record.specs.KeyMap.{len};
     ghost use Rattle.dfs_change.specs.Meant.{log_meaning};
     ghost use Rattle.dfs_change.specs.Sealing.{entry_of};
-    ghost use Rattle.dfs_job.specs.Job.{Job as PlainJob, need, own_changes};
-    ghost use Rattle.dfs_job.specs.Stands.{JobIsSound, JobStands, own_count, publishes_too_many};
+    ghost use Rattle.dfs_view.specs.Layers.{own_runs};
+    ghost use Rattle.dfs_job.specs.Job.{Job as PlainJob, after_flush, layer_changes, need, own_changes};
+    ghost use Rattle.dfs_job.specs.Stands.{JobIsSound, JobStands, Passes, own_count, publishes_too_many};
 
     /// Seals all layers of the job as one run in its log: the only one as it stands, several ones merged in as many parts as the
     /// settings say, none as a run without a table. What it selected is no part of that, and a plan under way is given up. The job is
@@ -58,7 +61,9 @@ impl Job {
         ensures number { self.new.ids ≡ self.old.ids }
         ensures settings { self.new.settings ≡ self.old.settings }
         ensures basis { self.new.layers.basis.items ≡ self.old.layers.basis.items }
-        // `LogFull` where the log refused a piece, and else only where the merged run may need too many tables.
+        // `LogFull` where the log refused a piece, and else only where the merged run would pass 131,072 tables; what bounds the tables
+        // by counts, on every host, is `full`.
+        ensures passes { (j : PlainJob) → Told (H.state host.old) (JobStands (H.state host.old) self.old j → IsErrOf result Fault.LogFull → (0 < self.new.layers.log.refused) ⊎ Passes (own_runs self.new.layers) self.old.settings.parts (layer_changes (after_flush j))) }
         ensures full { IsErrOf result Fault.LogFull → (0 < self.new.layers.log.refused) ⊎ IsTrue (publishes_too_many self.old) }
         ensures refuses { 0 < self.new.layers.log.refused → IsErrOf result Fault.LogFull }
         ensures short { (j : PlainJob) → Told (H.state host.old) (JobStands (H.state host.old) self.old j → IsErrOf result Fault.LogFull → j.settings.log_bytes < need j) }
@@ -94,7 +99,9 @@ fn seal<H: Host>(
         → IfOk result (λ sealed. (name : List ℕ) → log_meaning (bytes_of (H.state host.new) layers.old.log.file) (entry_of name layers.old.log.file sealed) ≡ Some (delta (flat_map (λ rs. rs) ls)))) }
     ensures count { (ls : List (List AnyRecord)) → Told (H.state host.old) (IsSealable (H.state host.old) layers.old.log.file (own_runs layers.old) ls → IfOk result (λ sealed. sealed.count ≡ len (delta (flat_map (λ rs. rs) ls)))) }
     ensures settled { Told (H.state host.old) (OnOk result (IsSettled ((H.state host.new).disk.files layers.old.log.file))) }
-    ensures same { layers.new.basis.items ≡ layers.old.basis.items }
+    ensures same { (layers.new.basis.items ≡ layers.old.basis.items) × (layers.new.runs.items ≡ layers.old.runs.items) }
+    ensures passes { (ls : List (List AnyRecord)) → Told (H.state host.old) (IsSealable (H.state host.old) layers.old.log.file (own_runs layers.old) ls
+        → IsErrOf result Fault.LogFull → (0 < layers.new.log.refused) ⊎ Passes (own_runs layers.old) parts (map delta ls)) }
     ensures full { IsErrOf result Fault.LogFull → (0 < layers.new.log.refused) ⊎ IsTrue (may_pass (closed_count layers.old) parts) }
     ensures overfull { Told (H.state host.old) (IsErrOf result Fault.LogFull → (0 < layers.new.log.refused) ⊎ (536870912 < closed_count layers.old + 4095 * parts)) }
     ensures refuses { 0 < layers.new.log.refused → IsErrOf result Fault.LogFull }
@@ -159,6 +166,8 @@ fn merge_runs<H: Host>(
         → IfOk result (λ run. run_count run ≤ sum_by run_count (map (λ r. r.value) runs.now))) }
     ensures log { Told (H.state host.old) (OnOk result (LogStands (H.state host.new) log.new)) }
     ensures live { OnOk result (IsFalse log.new.spent) }
+    ensures passes { (ls : List (List AnyRecord)) → Told (H.state host.old) (AreStored (bytes_of (H.state host.old) log.old.file) (map (λ r. r.value) runs.now) ls
+        → IsErrOf result Fault.LogFull → (0 < log.new.refused) ⊎ Passes (map (λ r. r.value) runs.now) parts (map delta ls)) }
     ensures full { IsErrOf result Fault.LogFull → (0 < log.new.refused) ⊎ IsTrue (may_pass (sum_by run_count (map (λ r. r.value) runs.now)) parts) }
     ensures overfull { (ls : List (List AnyRecord)) → Told (H.state host.old) (AreStored (bytes_of (H.state host.old) log.old.file) (map (λ r. r.value) runs.now) ls
         → IsErrOf result Fault.LogFull → (0 < log.new.refused) ⊎ (536870912 < sum_by run_count (map (λ r. r.value) runs.now) + 4095 * parts)) }
@@ -187,6 +196,8 @@ fn compaction_of(alloc: Global, runs: &[Rc<Run>], parts: u16) -> Result<Compacti
     requires most { parts ≤ 256 }
     ensures sources { IfOk result (λ c. c.sources ≡ map (λ r. r.value) runs.now) }
     ensures parts { IfOk result (λ c. c.parts ≡ parts) }
+    ensures keys { IfOk result (λ c. IsPermutation (first_keys (map (λ r. r.value) runs.now)) c.keys) }
+    ensures sorted { IfOk result (λ c. AreSorted c.keys) }
     ensures none { IfOk result (λ c. c.merged ≡ replicate parts None) }
     ensures live { IfOk result (λ c. IsFalse c.spent) }
     ensures stands { (files : Files) (file : ℕ) (ds : List Delta) → AreSources files (map (λ r. r.value) runs.now) ds → IfOk result (λ c. CompactionStands files file c ds) }
@@ -216,6 +227,7 @@ fn merge_parts<H: Host>(
     ensures kept { (ds : List Delta) → Told (H.state host.old) (CompactionStands (bytes_of (H.state host.old)) log.old.file compaction.old ds → OnOk result (CompactionStands (bytes_of (H.state host.new)) log.old.file compaction.new ds)) }
     ensures live { OnOk result (IsFalse compaction.new.spent × IsFalse log.new.spent) }
     ensures log { Told (H.state host.old) (OnOk result (LogStands (H.state host.new) log.new)) }
+    ensures passes { (ds : List Delta) → Told (H.state host.old) (CompactionStands (bytes_of (H.state host.old)) log.old.file compaction.old ds → IsErrOf result Fault.LogFull → (0 < log.new.refused) ⊎ (131072 < tables_below compaction.old.keys parts ds parts)) }
     ensures full { IsErrOf result Fault.LogFull → (0 < log.new.refused) ⊎ IsTrue (may_pass (count_all compaction.old.sources) parts) }
     ensures overfull { (ds : List Delta) → Told (H.state host.old) (CompactionStands (bytes_of (H.state host.old)) log.old.file compaction.old ds → IsErrOf result Fault.LogFull → (0 < log.new.refused) ⊎ IsOverfull compaction.old) }
     ensures refuses { 0 < log.new.refused → IsErrOf result Fault.LogFull }

@@ -70,6 +70,7 @@ disk_worked before after old new work silent cause refused images = record {
   silent = silent;
   cause = cause;
   full = full_by (Err Disk) (work.many old) new (is_disk_fault LogFull) refused;
+  passes = λ s tells stands is. absurd (is_disk_fault LogFull is);
   short = λ s tells stands is. absurd (is_disk_fault LogFull is);
   reads = λ quiet. tt;
   names = tt;

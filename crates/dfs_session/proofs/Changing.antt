@@ -6,7 +6,7 @@ use Rattle.std.specs.Prelude.{◌&&◌, IfOk, IfNone, IfSome, OnOk, IsErrOf, IsT
 use Rattle.std.specs.BTreeMap.{BTreeMap, is_at}
 use Rattle.std.specs.Global.{Vec}
 use Rattle.std.specs.List.{AllByRecursion, AllZip, list_any}
-use Rattle.std.specs.Map.{set_value, remove_entry}
+use Rattle.std.specs.Map.{lookup, set_value, remove_entry}
 use Rattle.dfs_host.specs.Fault.{HasFaultCause, NoFault}
 use Rattle.dfs_host.specs.Host.{HostState, LeavesOnly, Only, bytes_of}
 use Rattle.dfs_host.specs.declared.fault.Fault.{Fault}
@@ -20,13 +20,13 @@ use Rattle.dfs_reply.specs.Text.{text}
 use Rattle.dfs_path.specs.declared.Scope.{Scope}
 use Rattle.dfs_script.specs.Scopes.{is_parts}
 use Rattle.dfs_script.specs.declared.JobWord.{JobWord}
-use Rattle.dfs_view.specs.Layers.{selected}
+use Rattle.dfs_view.specs.Layers.{own_runs, selected}
 use Rattle.dfs_job.specs.declared.settings.Settings.{Settings}
 use Rattle.dfs_job.specs.declared.job.Job.{Job as LiveJob}
 use Rattle.dfs_job.specs.declared.answers.Planned.{Planned}
 use Rattle.dfs_job.specs.declared.answers.Planned.TheVariants.{Made, Busy, Full}
-use Rattle.dfs_job.specs.Job.{Job, after_plan, need, plan_answer, planned_as}
-use Rattle.dfs_job.specs.Stands.{JobIsSound, JobStands, StandsForOne}
+use Rattle.dfs_job.specs.Job.{Job, after_flush, after_plan, layer_changes, need, plan_answer, planned_as}
+use Rattle.dfs_job.specs.Stands.{JobIsSound, JobStands, Passes, PassesWith, StandsForOne}
 use Rattle.dfs_session.specs.declared.keeping.Kept.{Kept}
 use Rattle.dfs_session.specs.declared.session.Session.{Session as LiveSession}
 use Rattle.dfs_session.specs.Files.{value_on}
@@ -35,12 +35,12 @@ use Rattle.dfs_session.specs.Kept.{IsOwn}
 use Rattle.dfs_session.specs.Session.{Registry, Session, Step, live_job, of_live, ends, word_cmp}
 use Rattle.dfs_session.specs.Sound.{AreApart, IsEntry, IsListed, IsLive, IsSound, NoneHas, PlainOf, jobs_of, listed_in, live_in, number_of}
 use Rattle.dfs_session.specs.Stands.{EntryStands, LeavesValue, Stands}
-use Rattle.dfs_session.specs.Worked.{AreNamed, IsFullWhere, IsPast, IsShort, IsWorked, Work, has_refused, job_is, plain, with_plan_made}
+use Rattle.dfs_session.specs.Worked.{AreNamed, IsFullWhere, IsPast, IsShort, IsWorked, PartPasses, PublicationPasses, Work, has_refused, job_is, plain, with_plan_made}
 use Rattle.dfs_session.proofs.Begun.{HasEnded, each_ended, kept_still, still_none}
 use Rattle.dfs_session.proofs.Faults.{unrefused, each_unrefused, none_past, sound_refused, not_true}
 use Rattle.dfs_session.proofs.Handed.{fault_or, handed_cause}
 use Rattle.dfs_session.proofs.Images.{own_images, read_images}
-use Rattle.dfs_session.proofs.Jobs.{Live, FoundBoth, all_set, all_found, all_remove, any_set, apart_set, apart_remove, both_found, none_unremoved, none_unset, removed_apart, zip_remove}
+use Rattle.dfs_session.proofs.Jobs.{Live, FoundBoth, all_set, all_found, all_remove, any_set, apart_set, apart_remove, both_found, none_unremoved, none_unset, removed_apart, zip_remove, found_set}
 use Rattle.dfs_session.proofs.Kept.{Keeps, bytes_stay, keep_listed, only_keeps, plains_changed, registry_kept, registry_value, settled_stay, unlisted_apart, zip_changed}
 use Rattle.dfs_session.proofs.Values.{same_publications, stands_value}
 use Rattle.dfs_session.proofs.Working.{OnlyMemory, ended_names, on_ok, same_names, worked_by_memory}
@@ -117,6 +117,11 @@ module _ (before after : HostState) (session : LiveSession) (word : JobWord) (li
   pub was_sound : JobIsSound before live
   was_sound = record { fit = was_live.fit; stands = λ tells. all_found (λ x. StandsForOne before x) test (jobs_of session) live (sound.jobs tells) found }
 
+  -- what the call on the job says of the tables of its run, the session says of the job
+  pub part_passed : (s : Session) (f : Found before s word live) (part : ℕ) {A : Type 0} → A ⊎ PassesWith live.plan f.plain.plan f.plain part → A ⊎ PartPasses (live_in session word) (live_job s word) part
+  part_passed s f part (inl a) = inl a
+  part_passed s f part (inr many) = inr (subst (λ (o : Option LiveJob). PartPasses o (live_job s word) part) (sym found) (subst (λ (o : Option Job). PartPasses (Some live) o part) (sym f.found) many))
+
   -- what the call on the job says of a piece that was refused, the session says of the job
   pub past_of : (new : LiveJob) → new.settings ≡ live.settings → (0 < new.layers.log.refused → live.layers.log.limit < new.layers.log.len + new.layers.log.refused) → IsPast new
   past_of new same past = λ some. omega (arith, past some, was_live.fit.log_bytes, ap (λ (t : Settings). t.log_bytes) same)
@@ -152,6 +157,14 @@ module _ (before after : HostState) (session : LiveSession) (word : JobWord) (li
       still_unrefused none =
           ap (λ (es : Live). list_any (λ e. nat_lt 0 e.1.layers.log.refused) es) set
           ∙ unrefused (set_value test (jobs_of session) new) (all_set (λ x. x.layers.log.refused ≡ 0) test (jobs_of session) new none (each_unrefused session.greatest (listed_in session) (jobs_of session) sound.memory.jobs))
+
+      pub publication_passed : (s : Session) (f : Found before s word live) {A : Type 0} → A ⊎ Passes (own_runs new.layers) live.settings.parts (layer_changes (after_flush f.plain)) → A ⊎ PublicationPasses (live_in changed word) (live_job s word)
+      publication_passed s f (inl a) = inl a
+      publication_passed s f (inr many) =
+          let now : live_in changed word ≡ Some new = ap (lookup test) set ∙ found_set test (jobs_of session) live new found in
+          inr
+          (subst (λ (o : Option LiveJob). PublicationPasses o (live_job s word)) (sym now)
+          (subst (λ (o : Option Job). PublicationPasses (Some new) o) (sym f.found) (subst (λ (t : Settings). Passes (own_runs new.layers) t.parts (layer_changes (after_flush f.plain))) (sym f.is.settings) many)))
 
       now_refused : 0 < new.layers.log.refused → has_refused changed ≡ true
       now_refused some = ap (λ (es : Live). list_any (λ e. nat_lt 0 e.1.layers.log.refused) es) set ∙ any_set test (jobs_of session) live new found (lt-ltb 0 new.layers.log.refused some)
@@ -216,8 +229,9 @@ module _ (before after : HostState) (session : LiveSession) (word : JobWord) (li
 
       -- a call on the job that met a fault
       pub fault_worked : {T : Type 0} (work : Work) (fault : Fault) → HasFaultCause {T = T} before after (Err fault) → (IsErrOf {T = T} (Err fault) LogFull → (0 < new.layers.log.refused) ⊎ IsTrue (work.many session)) → IsPast new → (0 < new.layers.log.refused → IsErrOf {T = T} (Err fault) LogFull)
-          → ((s : Session) → IsTrue before.tells → Stands before session s → fault ≡ LogFull → IsShort (work.job s)) → IsWorked work before after session changed (Err fault)
-      fault_worked {T} work fault cause full past refused short = record {
+          → ((s : Session) → IsTrue before.tells → Stands before session s → fault ≡ LogFull → IsShort (work.job s))
+          → ((s : Session) → IsTrue before.tells → Stands before session s → fault ≡ LogFull → (0 < new.layers.log.refused) ⊎ work.passes s session changed) → IsWorked work before after session changed (Err fault)
+      fault_worked {T} work fault cause full past refused short passes = record {
         sound = tt;
         settings = tt;
         reply = λ s tells stands. tt;
@@ -227,6 +241,7 @@ module _ (before after : HostState) (session : LiveSession) (word : JobWord) (li
         silent = silent_only only;
         cause = handed_cause fault (none_yet before) cause;
         full = full_with (Err fault) (work.many session) (λ is. full (ap Err (ap fault_or is))) past (λ some. ap Err (ap (fault_or {T = T}) (refused some)));
+        passes = λ s tells stands is. elim (passes s tells stands (ap fault_or is)) [ inl holds ↦ inl (now_refused holds) | inr many ↦ inr many ];
         short = λ s tells stands is. short s tells stands (ap fault_or is);
         reads = λ quiet. tt;
         names = tt;

@@ -108,8 +108,8 @@ module _ (host : HostState) (session : LiveSession) (s : Session) (w : JobWord) 
 
 pub after_reads : (before mid after : HostState) (session new : LiveSession) (does did : Work) (result : Result (Vec ℕ) Fault) → IsSound before session → OnlyReads before mid → NoFault before mid
     → ((s : Session) → IsTrue before.tells → Stands before session s → does.step s ≡ did.step s) → ((s : Session) → does.job s ≡ did.job s) → ((t : Settings) → does.settings t ≡ did.settings t) → IsWorked did mid after session new result
-    → (does.quiet session → OnOk result (after.reads ≡ before.reads)) → does.names ≡ did.names → does.many session ≡ did.many session → IsWorked does before after session new result
-after_reads before mid after session new does did result sound only none same job settings worked reads named many =
+    → (does.quiet session → OnOk result (after.reads ≡ before.reads)) → does.names ≡ did.names → does.many session ≡ did.many session → ((s : Session) → did.passes s session new → does.passes s session new) → IsWorked does before after session new result
+after_reads before mid after session new does did result sound only none same job settings worked reads named many passes =
     let stands_mid : (s : Session) → IsTrue before.tells → Stands before session s → Stands mid session s = λ s tells stands. stands_read before mid session s only tells stands in
     record {
       sound = worked.sound;
@@ -123,6 +123,7 @@ after_reads before mid after session new does did result sound only none same jo
       silent = silent_on (silent_reads only) worked.silent;
       cause = cause_of_last none worked.cause result (λ fault is. is) (λ is. is);
       full = subst (λ (b : Bool). IsFullWhere result b new) (sym many) worked.full;
+      passes = λ s tells stands is. elim (worked.passes s (only.tells ∙ tells) (stands_mid s tells stands) is) [ inl holds ↦ inl holds | inr many ↦ inr (passes s many) ];
       short = λ s tells stands is. subst IsShort (sym (job s)) (worked.short s (only.tells ∙ tells) (stands_mid s tells stands) is);
       reads = reads;
       names = subst (λ (names : Option (List SnapName)). OnOk result (AreNamed names session new)) (sym named) worked.names;
@@ -142,6 +143,7 @@ read_fault_worked {T} before after session work fault sound only cause full = re
   silent = silent_reads only;
   cause = handed_cause fault (none_yet before) cause;
   full = full_by (Err fault) (work.many session) session (λ is. full (ap fault_or is)) (sound_refused session sound.memory);
+  passes = λ s tells stands is. absurd (full (ap fault_or is));
   short = λ s tells stands is. absurd (full (ap fault_or is));
   reads = λ quiet. tt;
   names = tt;

@@ -109,6 +109,14 @@ removed_apart test (e ∷ es) x is apart = by (test e.0) (λ later. removed_apar
         let other = all_found (λ f. number_of e.1 ≢ number_of f) test es x apart.0 later in
         (λ is. other (sym is), rest later)
 
+pub found_set : (test : JobWord → Bool) (es : Live) (old x : LiveJob) → lookup test es ≡ Some old → lookup test (set_value test es x) ≡ Some x
+found_set test [] old x found = absurd cc
+found_set test (e ∷ es) old x found = by (test e.0) refl (found_set test es old x) found
+  where
+    by : (b : Bool) → test e.0 ≡ b → (lookup test es ≡ Some old → lookup test (set_value test es x) ≡ Some x) → cond b (Some e.1) (lookup test es) ≡ Some old → lookup test (cond b ((e.0, x) ∷ es) (e ∷ set_value test es x)) ≡ Some x
+    by true is rest found = ap (λ (b : Bool). cond b (Some x) (lookup test es)) is
+    by false is rest found = ap (λ (b : Bool). cond b (Some e.1) (lookup test (set_value test es x))) is ∙ rest found
+
 pub remove_set : (test : JobWord → Bool) (es : Live) (x : LiveJob) → remove_entry test (set_value test es x) ≡ remove_entry test es
 remove_set test [] x = refl
 remove_set test (e ∷ es) x = by (test e.0) (remove_set test es x) refl

@@ -146,6 +146,7 @@ module _ (before mid after : HostState) (session : LiveSession) (word : JobWord)
     silent = silent_on (silent_only sealing) (silent_only listing);
     cause = handed_cause fault none cause;
     full = full_by (Err fault) (job_is publishes_too_many (live_in session word)) new (λ is. full (ap fault_or is)) refused;
+    passes = λ s tells stands is. absurd (full (ap fault_or is));
     short = λ s tells stands is. absurd (full (ap fault_or is));
     reads = λ quiet. tt;
     names = tt;
@@ -296,6 +297,7 @@ module _ (before mid after : HostState) (session : LiveSession) (word : JobWord)
         silent = silent_on (silent_only sealing) (silent_only listing);
         cause = memory_cause (Ok bytes) none tt;
         full = full_by (Ok bytes) (job_is publishes_too_many (live_in session word)) published_session (ok_never LogFull) (sound_refused published_session published_sound.memory);
+        passes = λ s tells stands is. absurd (ok_never LogFull is);
         short = λ s tells stands is. absurd (ok_never LogFull is);
         reads = λ quiet. absurd quiet;
         names = ended_names session published_session None live.ids.job refl ended (subst (AllByRecursion (λ e. number_of live ≢ number_of e.1)) (sym gone) apart) published_sound.memory;

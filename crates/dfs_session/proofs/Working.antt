@@ -95,6 +95,7 @@ worked_by_memory before after old new work result memory silent none refused set
   silent = silent;
   cause = memory_cause result none memory;
   full = full_by result (work.many old) new (λ is_full. it_is_memory result LogFull memory is_full) refused;
+  passes = λ s tells stood is_full. absurd (it_is_memory result LogFull memory is_full);
   short = λ s tells stood is_full. absurd (it_is_memory result LogFull memory is_full);
   reads = reads;
   names = names;

@@ -73,7 +73,7 @@ impl Session {
     ghost use Rattle.dfs_session.specs.Sound.{IsSound, jobs_of};
     ghost use Rattle.dfs_job.specs.Stands.{AreSettings};
     ghost use Rattle.dfs_session.specs.Stands.{Stands, LeavesValue};
-    ghost use Rattle.dfs_session.specs.Worked.{AreNamed, OpensAs, IsPast, IsShort, IsWorked, has_refused, job_by, many_by, names_by, of_command, of_line, settings_by};
+    ghost use Rattle.dfs_session.specs.Worked.{AreNamed, OpensAs, IsPast, IsShort, IsWorked, has_refused, job_by, many_by, names_by, of_command, of_line, passes_by, settings_by};
 
     /// Opens the registry of a host. Jobs that begin are given the settings.
     pub fn open<H: Host>(
@@ -133,8 +133,10 @@ impl Session {
         ensures durable { (s : PlainSession) → Told (H.state host.old) (Stands (H.state host.old) self.old s → OnOk result (HoldsNow (step_of s line.now).session.registry (H.state host.new))) }
         ensures silent { SaysNothing (H.state host.old) (H.state host.new) }
         ensures cause { HasFaultCause (H.state host.old) (H.state host.new) result }
-        // `LogFull` where the log of a job refused a piece in this line, and else only where the run that the line merges may need too
-        // many tables; and only where the log of the line's job is too short for what that job selected and made, this line counted.
+        // `LogFull` where the log of a job refused a piece in this line, and else only where the run that the line merges would pass
+        // 131,072 tables, or on a host that tells nothing where by counts it may need more; and only where the log of the line's job is
+        // too short for what that job selected and made, this line counted.
+        ensures passes { (s : PlainSession) → Told (H.state host.old) (Stands (H.state host.old) self.old s → IsErrOf result Fault.LogFull → IsTrue (has_refused self.new) ⊎ passes_by (meaning line.now) s self.old self.new) }
         ensures full { IsErrOf result Fault.LogFull → IsTrue (has_refused self.new) ⊎ IsTrue (many_by (meaning line.now) self.old) }
         ensures refused { IsTrue (has_refused self.new) → IsErrOf result Fault.LogFull }
         ensures past { AllByRecursion (λ e. IsPast e.1) (jobs_of self.new) }

@@ -64,3 +64,15 @@ returns-clause-growth g c = λ ls tells stored.
     let file = c.args.log.now.file in
     let stands = c.in-Ok.ensures.stands files file (map delta ls) (runs_are_sources files file rs ls c.requires.own stored) in
     omega (arith, c.merge_parts.ensures.growth (map delta ls) tells stands, ap count_all c.in-Ok.ensures.sources, counted_runs rs)
+
+pub returns-in_err-merge_parts-clause-passes : goal.returns-in_err-merge_parts-clause-passes
+returns-in_err-merge_parts-clause-passes g c = λ ls tells stored is.
+    let rs = map (λ r. r.value) c.args.runs.now in
+    let files = bytes_of (g.H.Host.state c.args.host.now) in
+    let file = c.args.log.now.file in
+    let p = err_from_is_err_and c.from_residual.result c.from_residual.ensures.1 in
+    let stands = c.in-Ok.ensures.stands files file (map delta ls) (runs_are_sources files file rs ls c.requires.own stored) in
+    elim (c.merge_parts.ensures.passes (map delta ls) tells stands (cc (is, c.in_err-merge_parts.was, p.1, p.2))) [
+      | inl some ↦ inl some
+      | inr many ↦ inr (record { keys = c.in-Ok.compaction.keys; sorted = c.in-Ok.ensures.sorted; firsts = c.in-Ok.ensures.keys; many = many })
+    ]

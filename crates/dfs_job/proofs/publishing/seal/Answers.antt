@@ -1,5 +1,6 @@
-use Rattle.std.proofs.Common.{List, ◌∙◌, ◌≡◌, ap, arith, sym, subst, length, map}
+use Rattle.std.proofs.Common.{inl, inr, List, ◌∙◌, ◌≡◌, ap, arith, sym, subst, length, map}
 use Rattle.std.proofs.lemmas.List.{length-map}
+use Rattle.std.proofs.lemmas.Result.{err_from_is_err_and}
 use Rattle.dfs_host.specs.Host.{Only, bytes_of}
 use Rattle.dfs_host.proofs.Moments.{only_goes_on}
 use Rattle.dfs_record.specs.Delta.{delta}
@@ -8,6 +9,7 @@ use Rattle.std.specs.Prelude.{flat_map}
 use Rattle.dfs_change.specs.Identities.{AreFit}
 use Rattle.dfs_table.specs.Stored.{IsStored}
 use Rattle.dfs_view.specs.Layers.{AreStored, own_runs}
+use Rattle.dfs_job.specs.Stands.{Passes}
 use Rattle.dfs_job.proofs.Sealing.{joined_fit, only_count, only_stored, run_in}
 use Rattle.dfs_job.proofs.publishing.seal.Goals as goal
 
@@ -68,3 +70,13 @@ finish-requires-2-clause-of_job g c = λ tells.
 pub returns-clause-only : goal.returns-clause-only
 returns-clause-only g c =
     only_goes_on c.in_ok-run.ensures.only (subst (λ n. Only n (g.H.Host.state c.merge_runs.new.host) (g.H.Host.state c.finish-2.new.host)) c.in_ok-run.ensures.same.0 c.finish-2.ensures.only)
+
+pub returns-in_err-run-clause-passes : goal.returns-in_err-run-clause-passes
+returns-in_err-run-clause-passes g c = λ ls tells are is.
+    let layers = c.args.layers.now in
+    let p = err_from_is_err_and c.from_residual.result c.from_residual.ensures.1 in
+    let stored = subst (λ xs. AreStored (bytes_of (g.H.Host.state c.args.host.now) layers.log.file) (map (λ r. r.value) xs) ls) (sym c.deref-2.ensures.value) are.stored in
+    elim (c.merge_runs.ensures.passes ls tells stored (cc (is, c.in_err-run.was, p.1, p.2))) [
+      | inl some ↦ inl some
+      | inr many ↦ inr (subst (λ xs. Passes (map (λ r. r.value) xs) c.args.parts (map delta ls)) c.deref-2.ensures.value many)
+    ]

@@ -178,8 +178,8 @@ returns-in_err-run-clause-overfull g c = λ ds tells stands is.
       | inr many ↦ inr (omega (arith, many, needed_few (part_of state ds c.args.part), next, join_few self.merged.items (λ j run at. (c.self.invariant.0.each j run at).enough), c.self.invariant.0.len, c.self.invariant.1, c.self.invariant.0.tables, ap (λ (s : CompactionState). count_of (all_fences (tables_of s.merged))) c.self.view_is, ap (λ (s : CompactionState). count_all s.sources) c.self.view_is, ap (λ (s : CompactionState). s.parts) c.self.view_is))
     ]
 
-pub returns-in_err-run-clause-past : goal.returns-in_err-run-clause-past
-returns-in_err-run-clause-past g c = λ ds tells stands is.
+pub returns-in_err-run-clause-passes : goal.returns-in_err-run-clause-passes
+returns-in_err-run-clause-passes g c = λ ds tells stands is.
     let self = c.self.inside in
     let state : CompactionState = record { sources = map (λ r. r.value) self.sources.items; keys = self.plan.keys; parts = self.plan.parts; merged = self.merged.items; spent = self.spent } in
     let files = bytes_of (g.H.Host.state c.args.host.now) in

@@ -4,8 +4,9 @@ use Rattle.dfs_host.specs.declared.fault.Fault.TheVariants.{LogFull}
 use Rattle.std.proofs.lemmas.Result.{err_from_is_err_and}
 use Rattle.dfs_host.specs.Host.{Only}
 use Rattle.dfs_job.specs.Job.{merged_as}
+use Rattle.dfs_job.specs.Parted.{IsRefusedPart, answer_by}
 use Rattle.dfs_job.specs.Stands.{JobStands}
-use Rattle.dfs_job.proofs.Merges.{part_full, part_answers, part_shorts, part_stands, with_state}
+use Rattle.dfs_job.proofs.Merges.{part_answers, part_full, part_passed, part_passes, part_shorts, part_stands, refused_part, with_state}
 use Rattle.dfs_job.proofs.job.Job.merge.Goals as goal
 
 pub returns-in_err-parted-clause-full : goal.returns-in_err-parted-clause-full
@@ -32,3 +33,15 @@ returns-clause-stands g c = λ j tells stands.
     subst (λ a. JobStands (g.H.Host.state c.part.new.host) (with_state c.args.self.now c.part.new.log c.in-Some.plan c.part.new.self) (merged_as a j c.args.part)) (sym c.answer_of.ensures)
     (part_stands c.args.self.now c.in-Some.plan c.requires.fit (sym c.take.ensures.value ∙ c.in-Some.is) (g.H.Host.state c.args.host.now) j stands c.part.new.self c.part.new.log (g.H.Host.state c.part.new.host) c.args.part c.in_ok-parted.parted tells
     (subst (λ n. Only n (g.H.Host.state c.args.host.now) (g.H.Host.state c.part.new.host)) c.requires.fit.file of.only) of.log_same.0 (of.log tells) (of.before tells) of.refused of.added (λ ds held. of.stands ds tells held) of.growth of.most_of_all)
+
+pub returns-in_err-parted-clause-passes : goal.returns-in_err-parted-clause-passes
+returns-in_err-parted-clause-passes g c = λ j tells stands is.
+    let p = err_from_is_err_and c.from_residual.result c.from_residual.ensures.1 in
+    part_passes c.args.self.now c.in-Some.plan c.requires.fit (sym c.take.ensures.value ∙ c.in-Some.is) (g.H.Host.state c.args.host.now) j stands c.args.part
+    (λ ds held. c.part.ensures.passes ds tells held (cc (is, c.in_err-parted.was, p.1, p.2)))
+
+pub returns-clause-too_many : goal.returns-clause-too_many
+returns-clause-too_many g c = λ j tells stands many.
+    subst IsRefusedPart (sym c.answer_of.ensures)
+    (part_passed c.args.self.now c.in-Some.plan c.requires.fit (sym c.take.ensures.value ∙ c.in-Some.is) (g.H.Host.state c.args.host.now) j stands c.args.part (IsRefusedPart (answer_by c.in_ok-parted.parted))
+    (λ ds held past. refused_part c.in_ok-parted.parted (c.in_ok-parted.ensures.too_many ds tells held past)) many)

@@ -1,4 +1,4 @@
-use Rattle.std.proofs.Common.{inl, inr, ◌∙◌, ◌≡◌, ◌+◌, ◌*◌, ap, arith, sym, subst, refl, flat_map, List, ℕ, Some}
+use Rattle.std.proofs.Common.{inl, inr, ◌∙◌, ◌≡◌, ◌+◌, ◌*◌, ap, arith, sym, subst, refl, flat_map, map, List, ℕ, Some}
 use Rattle.std.specs.Prelude.{IfOk}
 use Rattle.std.proofs.lemmas.Result.{err_from_is_err_and}
 use Rattle.std.specs.List.{AllByRecursion}
@@ -18,7 +18,7 @@ use Rattle.dfs_job.specs.declared.settings.Settings.{Settings}
 use Rattle.dfs_job.proofs.Fair.{within_fits}
 use Rattle.dfs_job.proofs.Keeping.{account_short, too_many_short}
 use Rattle.dfs_job.specs.Sealed.{IsSealable}
-use Rattle.dfs_job.specs.Stands.{own_count}
+use Rattle.dfs_job.specs.Stands.{Passes, own_count}
 use Rattle.dfs_job.proofs.Layers.{flushed_closed}
 use Rattle.dfs_job.proofs.Parting.{passes_more}
 use Rattle.dfs_job.proofs.job.Job.publish_tables.Goals as goal
@@ -111,3 +111,24 @@ returns-clause-short g c = λ j tells stands is.
           )
       | inr many ↦ too_many_short old j c.requires.sound.fit stands.settings (omega (arith, many, of.works.counted, few, c.requires.sound.fit.settings.parts_most))
     ]
+
+pub returns-clause-passes : goal.returns-clause-passes
+returns-clause-passes g c = λ j tells stands is.
+    let of = c.in_ok-flush.ensures in
+    let mid = g.H.Host.state c.flush.new.host in
+    let file : c.flush.new.layers.log.file ≡ j.ids.job = of.works.file ∙ c.requires.sound.fit.file ∙ ap (λ (n : _). n.job) (sym stands.ids) in
+    let ls = (flushed j.layers).closed in
+    let are : IsSealable mid c.flush.new.layers.log.file (own_runs c.flush.new.layers) ls = record {
+      stored = (of.works.added tells refl j.layers stands.layers).closed;
+      own = subst (λ n. AllByRecursion (FitsJob n) (flat_map (λ (x : List _). x) ls)) (sym file)
+          (subst (AllByRecursion (FitsJob j.ids.job)) (sym (flushed_closed j.layers)) (all_weaker (IsRecordWithin j.ids) (FitsJob j.ids.job) (joined j.layers) (within_fits j.ids) stands.fair.own));
+    } in
+    elim (c.seal.ensures.passes ls (of.cause.tells ∙ tells) are is) [
+      | inl some ↦ inl some
+      | inr many ↦ inr (subst (λ xs. Passes (map (λ r. r.value) xs) c.args.self.now.settings.parts (map delta ls)) (sym c.seal.ensures.same.1) many)
+    ]
+
+pub returns-in_err-flush-clause-passes : goal.returns-in_err-flush-clause-passes
+returns-in_err-flush-clause-passes g c = λ j tells stands is.
+    let p = err_from_is_err_and c.from_residual.result c.from_residual.ensures.1 in
+    inl (c.flush.ensures.full.0 (cc (is, c.in_err-flush.was, p.1, p.2)))

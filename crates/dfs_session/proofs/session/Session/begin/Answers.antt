@@ -101,7 +101,7 @@ returns-in-Changes g c =
     (λ s. refl) (λ t. refl)
     worked
     (λ quiet. on_ok_by c.begin_over.result (after.reads ≡ mid.reads) (after.reads ≡ before.reads) (λ reads. reads ∙ c.in_ok-changes.ensures.reads (names_kept session names c.requires.memory quiet)) (worked.reads tt))
-    (ap Some (sym (subst (λ (x : Selection). AreNamedBy names x) c.in-Changes.is c.in_ok-changes.ensures.names))) refl
+    (ap Some (sym (subst (λ (x : Selection). AreNamedBy names x) c.in-Changes.is c.in_ok-changes.ensures.names))) refl (λ s many. many)
 
 pub returns-in-Damaged : goal.returns-in-Damaged
 returns-in-Damaged g c =

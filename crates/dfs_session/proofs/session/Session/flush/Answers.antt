@@ -51,7 +51,8 @@ returns-in_err-flush g c =
     (subst (λ (r : Result (Unit {0}) Fault). HasFaultCause before after r) was c.flush.ensures.cause) (λ is. inl (c.flush.ensures.full.0 (was ∙ is))) (past_of before after session w live c.requires found x c.flush.ensures.settings c.flush.ensures.past) (λ some. sym was ∙ c.flush.ensures.full.1 some)
     (λ s tells stands is.
     let f = found_job before session s w live stands found in
-    subst IsShort (sym f.found) (c.flush.ensures.short f.plain tells f.is (was ∙ ap Err is))))
+    subst IsShort (sym f.found) (c.flush.ensures.short f.plain tells f.is (was ∙ ap Err is)))
+    (λ s tells stands is. inl (c.flush.ensures.full.0 (was ∙ ap Err is))))
 
 pub returns : goal.returns
 returns g c =

@@ -57,7 +57,8 @@ returns-in_err-answer g c =
     (subst (λ (r : Result OpReply Fault). HasFaultCause before after r) was c.op.ensures.cause) (λ is. inl (c.op.ensures.full.0 (was ∙ is))) (past_of before after session w live c.requires.sound found x c.op.ensures.settings c.op.ensures.past) (λ some. sym was ∙ c.op.ensures.full.1 some)
     (λ s tells stands is.
     let f = found_job before session s w live stands found in
-    subst (λ (o : Option Job). IsShort (with_op op o)) (sym f.found) (c.op.ensures.short f.plain tells f.is (was ∙ ap Err is))))
+    subst (λ (o : Option Job). IsShort (with_op op o)) (sym f.found) (c.op.ensures.short f.plain tells f.is (was ∙ ap Err is)))
+    (λ s tells stands is. inl (c.op.ensures.full.0 (was ∙ ap Err is))))
 
 pub returns : goal.returns
 returns g c =

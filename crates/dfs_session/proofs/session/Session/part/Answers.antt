@@ -18,7 +18,7 @@ use Rattle.dfs_job.specs.Job.{Job, after_part}
 use Rattle.dfs_job.specs.Stands.{merges_too_many}
 use Rattle.dfs_session.specs.Session.{merges_with, of_live, told_of_part}
 use Rattle.dfs_session.specs.Worked.{IsShort, IsWorked, merging}
-use Rattle.dfs_session.proofs.Changing.{answered_worked, changed_stands, fault_worked, found_job, left_basis, no_job, past_of, so_of_job, was_sound}
+use Rattle.dfs_session.proofs.Changing.{answered_worked, changed_stands, fault_worked, found_job, left_basis, no_job, part_passed, past_of, so_of_job, was_sound}
 use Rattle.dfs_session.proofs.Handed.{none_unless}
 use Rattle.dfs_session.proofs.Selecting.{no_fault}
 use Rattle.dfs_session.proofs.Working.{stays_in_memory}
@@ -57,7 +57,8 @@ returns-in_err-answer g c =
     (subst (λ (r : Result JobPart Fault). HasFaultCause before after r) was c.part.ensures.cause) (λ is. so_of_job session w live merges_too_many found (c.part.ensures.full (was ∙ is))) (past_of before after session w live c.requires found x c.part.ensures.settings c.part.ensures.past) (λ some. sym was ∙ c.part.ensures.refuses some)
     (λ s tells stands is.
     let f = found_job before session s w live stands found in
-    subst IsShort (sym f.found) (c.part.ensures.short f.plain tells f.is (was ∙ ap Err is))))
+    subst IsShort (sym f.found) (c.part.ensures.short f.plain tells f.is (was ∙ ap Err is)))
+    (λ s tells stands is. let f = found_job before session s w live stands found in part_passed before after session w live c.requires found s f c.args.part (c.part.ensures.passes f.plain tells f.is (was ∙ ap Err is))))
 
 pub returns : goal.returns
 returns g c =

@@ -59,7 +59,8 @@ returns-in_err-answer g c =
     (subst (λ (r : Result Planned Fault). HasFaultCause before after r) was c.plan.ensures.cause) (λ is. inl (c.plan.ensures.full.0 (was ∙ is))) (past_of before after session w live c.requires.sound found x c.plan.ensures.settings c.plan.ensures.past) (λ some. sym was ∙ c.plan.ensures.full.1 some)
     (λ s tells stands is.
     let f = found_job before session s w live stands found in
-    subst (λ (o : Option Job). IsShort (with_plan_made c.args.scope c.args.parts o)) (sym f.found) (plan_short f.plain c.args.scope c.args.parts (c.plan.ensures.short f.plain tells f.is (was ∙ ap Err is)))))
+    subst (λ (o : Option Job). IsShort (with_plan_made c.args.scope c.args.parts o)) (sym f.found) (plan_short f.plain c.args.scope c.args.parts (c.plan.ensures.short f.plain tells f.is (was ∙ ap Err is))))
+    (λ s tells stands is. inl (c.plan.ensures.full.0 (was ∙ ap Err is))))
 
 pub returns : goal.returns
 returns g c =

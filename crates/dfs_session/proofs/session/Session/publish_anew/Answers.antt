@@ -18,7 +18,7 @@ use Rattle.dfs_job.specs.Stands.{publishes_too_many}
 use Rattle.dfs_session.specs.Session.{of_live, publishes_anew, word_cmp}
 use Rattle.dfs_session.specs.Sound.{jobs_of}
 use Rattle.dfs_session.specs.Worked.{IsShort, IsWorked, publishing_anew}
-use Rattle.dfs_session.proofs.Changing.{fault_worked, found_job, no_job, past_of, registry_still, so_of_job, still_unrefused, was_live, was_sound}
+use Rattle.dfs_session.proofs.Changing.{fault_worked, found_job, no_job, past_of, publication_passed, registry_still, so_of_job, still_unrefused, was_live, was_sound}
 use Rattle.dfs_session.proofs.Handed.{fault_or, memory_not_full, none_unless}
 use Rattle.dfs_session.proofs.Jobs.{Live, remove_set}
 use Rattle.dfs_session.proofs.Publishing.{in_range, published_worked, unlisted_worked}
@@ -60,7 +60,8 @@ returns-in_err-sealed g c =
     (subst (λ (r : Result Sealed Fault). HasFaultCause before mid r) was wrote.cause) (λ is. so_of_job session w live publishes_too_many found (wrote.full (was ∙ is))) (past_of before mid session w live c.requires.sound found x wrote.settings wrote.past) (λ some. sym was ∙ wrote.refuses some)
     (λ s tells stands is.
     let f = found_job before session s w live stands found in
-    subst IsShort (sym f.found) (wrote.short f.plain tells f.is (was ∙ ap Err is))))
+    subst IsShort (sym f.found) (wrote.short f.plain tells f.is (was ∙ ap Err is)))
+    (λ s tells stands is. let f = found_job before session s w live stands found in publication_passed before mid session w live c.requires.sound found wrote.only x jobs (c.get_mut.follows.holds x).0 s f (wrote.passes f.plain tells f.is (was ∙ ap Err is))))
 
 pub returns-in_err-reply : goal.returns-in_err-reply
 returns-in_err-reply g c =
@@ -78,7 +79,7 @@ returns-in_err-reply g c =
     let none : NoFault before mid = none_by (none_yet before) wrote.cause (ok Disk c.in_ok-sealed.was) in
     subst (λ (r : Result (Vec ℕ) Fault). IsWorked (publishing_anew w c.args.name) before mid session (record session { jobs = jobs }) r) (sym same)
     (fault_worked before mid session w live c.requires.sound (sym c.in-Some.ensures.value) wrote.only x jobs (c.get_mut.follows.holds x).0 {T = Vec ℕ} (publishing_anew w c.args.name) NoMemory (memory_cause (Err NoMemory) none refl)
-    (λ is. absurd (memory_not_full (ap fault_or is))) (past_of before mid session w live c.requires.sound (sym c.in-Some.ensures.value) x wrote.settings wrote.past) (λ some. absurd (ok LogFull c.in_ok-sealed.was (wrote.refuses some))) (λ s tells stands is. absurd (memory_not_full is)))
+    (λ is. absurd (memory_not_full (ap fault_or is))) (past_of before mid session w live c.requires.sound (sym c.in-Some.ensures.value) x wrote.settings wrote.past) (λ some. absurd (ok LogFull c.in_ok-sealed.was (wrote.refuses some))) (λ s tells stands is. absurd (memory_not_full is)) (λ s tells stands is. absurd (memory_not_full is)))
 
 pub list-requires-clause-stands : goal.list-requires-clause-stands
 list-requires-clause-stands g c =

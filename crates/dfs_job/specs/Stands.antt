@@ -1,5 +1,5 @@
 -- What a job in memory and the files of a host stand for, and what is so of every job.
-use Rattle.std.specs.Prelude.{◌≡◌, ◌≤◌, ◌<◌, ◌+◌, ◌-◌, ◌*◌, ◌++◌, ℕ, Bool, nat_lt, List, [], length, map, slice_get, take, is_some, Option, Some, None, IsSomeAnd, IsFalse}
+use Rattle.std.specs.Prelude.{◌≡◌, ◌≢◌, ◌≤◌, ◌<◌, ◌+◌, ◌-◌, ◌*◌, ◌++◌, ℕ, Bool, nat_lt, List, [], length, map, slice_get, take, is_some, Option, Some, None, IsSomeAnd, IsFalse}
 use Rattle.std.specs.List.{AllByRecursion, AllZip, sum_by}
 use Rattle.std.specs.List.Sorted.{IsPermutation}
 use Rattle.dfs_host.specs.Host.{HostState, Told, bytes_of}
@@ -151,8 +151,9 @@ PassesWith (Some u) None j part = ⊥
 PassesWith (Some u) (Some p) j part = IsPastWith u.compaction (covered_changes p j) part
 
 -- The run of these change sets, which are merged in so many parts, would pass 131,072 tables. What cuts them is the first keys of the
--- blocks of the runs that they are stored in.
+-- blocks of the runs that they are stored in. One run alone stands as it is.
 pub record Passes (runs : List Run) (parts : ℕ) (ds : List Delta) : Type 0 where
+  pub merged : length runs ≢ 1
   pub keys : List Key
   pub sorted : AreSorted keys
   pub firsts : IsPermutation (first_keys runs) keys

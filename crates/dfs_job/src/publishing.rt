@@ -1,6 +1,6 @@
 //! What a job publishes.
 
-ghost use Rattle.std.specs.Prelude.{◌≡◌, ◌≤◌, ◌<◌, ◌+◌, ◌*◌, ◌⊎◌, ◌↔◌, ℕ, List, IsFalse, IsTrue, IfOk, OnOk, IsErrOf, IsSomeAnd, Some, None, flat_map, map, replicate, slice_get, length};
+ghost use Rattle.std.specs.Prelude.{◌≡◌, ◌≢◌, ◌≤◌, ◌<◌, ◌+◌, ◌*◌, ◌⊎◌, ◌↔◌, ℕ, List, IsFalse, IsTrue, IfOk, OnOk, IsErrOf, IsSomeAnd, Some, None, flat_map, map, replicate, slice_get, length};
 ghost use Rattle.std.specs.List.{AllByRecursion, sum_by};
 ghost use Rattle.std.specs.List.Sorted.{IsPermutation};
 ghost use Rattle.dfs_host.specs.Disk.{IsSettled};
@@ -61,9 +61,10 @@ impl Job {
         ensures number { self.new.ids ≡ self.old.ids }
         ensures settings { self.new.settings ≡ self.old.settings }
         ensures basis { self.new.layers.basis.items ≡ self.old.layers.basis.items }
-        // `LogFull` where the log refused a piece, and else only where the merged run would pass 131,072 tables; what bounds the tables
-        // by counts, on every host, is `full`.
+        // `LogFull` exactly where the log refused a piece or the merged run would pass 131,072 tables, but for want of memory and a disk
+        // fault; what bounds the tables by counts, on every host, is `full`.
         ensures passes { (j : PlainJob) → Told (H.state host.old) (JobStands (H.state host.old) self.old j → IsErrOf result Fault.LogFull → (0 < self.new.layers.log.refused) ⊎ Passes (own_runs self.new.layers) self.old.settings.parts (layer_changes (after_flush j))) }
+        ensures too_many { (j : PlainJob) → Told (H.state host.old) (JobStands (H.state host.old) self.old j → Passes (own_runs self.new.layers) self.old.settings.parts (layer_changes (after_flush j)) → OnOk result ⊥) }
         ensures full { IsErrOf result Fault.LogFull → (0 < self.new.layers.log.refused) ⊎ IsTrue (publishes_too_many self.old) }
         ensures refuses { 0 < self.new.layers.log.refused → IsErrOf result Fault.LogFull }
         ensures short { (j : PlainJob) → Told (H.state host.old) (JobStands (H.state host.old) self.old j → IsErrOf result Fault.LogFull → j.settings.log_bytes < need j) }
@@ -102,6 +103,8 @@ fn seal<H: Host>(
     ensures same { (layers.new.basis.items ≡ layers.old.basis.items) × (layers.new.runs.items ≡ layers.old.runs.items) }
     ensures passes { (ls : List (List AnyRecord)) → Told (H.state host.old) (IsSealable (H.state host.old) layers.old.log.file (own_runs layers.old) ls
         → IsErrOf result Fault.LogFull → (0 < layers.new.log.refused) ⊎ Passes (own_runs layers.old) parts (map delta ls)) }
+    ensures too_many { (ls : List (List AnyRecord)) → Told (H.state host.old) (IsSealable (H.state host.old) layers.old.log.file (own_runs layers.old) ls
+        → Passes (own_runs layers.old) parts (map delta ls) → OnOk result ⊥) }
     ensures full { IsErrOf result Fault.LogFull → (0 < layers.new.log.refused) ⊎ IsTrue (may_pass (closed_count layers.old) parts) }
     ensures overfull { Told (H.state host.old) (IsErrOf result Fault.LogFull → (0 < layers.new.log.refused) ⊎ (536870912 < closed_count layers.old + 4095 * parts)) }
     ensures refuses { 0 < layers.new.log.refused → IsErrOf result Fault.LogFull }
@@ -158,6 +161,7 @@ fn merge_runs<H: Host>(
     requires live { IsFalse log.old.spent }
     requires stands { Told (H.state host.old) (LogStands (H.state host.old) log.old) }
     requires own { AllByRecursion (IsOwnRun log.old.file) (map (λ r. r.value) runs.now) }
+    requires several { length runs.now ≢ 1 }
 
     ensures stored { (ls : List (List AnyRecord)) → Told (H.state host.old) (AreStored (bytes_of (H.state host.old) log.old.file) (map (λ r. r.value) runs.now) ls
         → IfOk result (λ run. IsStored (bytes_of (H.state host.new) log.old.file) run (delta (flat_map (λ rs. rs) ls)))) }
@@ -168,6 +172,8 @@ fn merge_runs<H: Host>(
     ensures live { OnOk result (IsFalse log.new.spent) }
     ensures passes { (ls : List (List AnyRecord)) → Told (H.state host.old) (AreStored (bytes_of (H.state host.old) log.old.file) (map (λ r. r.value) runs.now) ls
         → IsErrOf result Fault.LogFull → (0 < log.new.refused) ⊎ Passes (map (λ r. r.value) runs.now) parts (map delta ls)) }
+    ensures too_many { (ls : List (List AnyRecord)) → Told (H.state host.old) (AreStored (bytes_of (H.state host.old) log.old.file) (map (λ r. r.value) runs.now) ls
+        → Passes (map (λ r. r.value) runs.now) parts (map delta ls) → OnOk result ⊥) }
     ensures full { IsErrOf result Fault.LogFull → (0 < log.new.refused) ⊎ IsTrue (may_pass (sum_by run_count (map (λ r. r.value) runs.now)) parts) }
     ensures overfull { (ls : List (List AnyRecord)) → Told (H.state host.old) (AreStored (bytes_of (H.state host.old) log.old.file) (map (λ r. r.value) runs.now) ls
         → IsErrOf result Fault.LogFull → (0 < log.new.refused) ⊎ (536870912 < sum_by run_count (map (λ r. r.value) runs.now) + 4095 * parts)) }
@@ -228,6 +234,7 @@ fn merge_parts<H: Host>(
     ensures live { OnOk result (IsFalse compaction.new.spent × IsFalse log.new.spent) }
     ensures log { Told (H.state host.old) (OnOk result (LogStands (H.state host.new) log.new)) }
     ensures passes { (ds : List Delta) → Told (H.state host.old) (CompactionStands (bytes_of (H.state host.old)) log.old.file compaction.old ds → IsErrOf result Fault.LogFull → (0 < log.new.refused) ⊎ (131072 < tables_below compaction.old.keys parts ds parts)) }
+    ensures needed { (ds : List Delta) → Told (H.state host.old) (CompactionStands (bytes_of (H.state host.old)) log.old.file compaction.old ds → OnOk result (length (tables_of compaction.new.merged) ≡ tables_below compaction.old.keys parts ds parts)) }
     ensures full { IsErrOf result Fault.LogFull → (0 < log.new.refused) ⊎ IsTrue (may_pass (count_all compaction.old.sources) parts) }
     ensures overfull { (ds : List Delta) → Told (H.state host.old) (CompactionStands (bytes_of (H.state host.old)) log.old.file compaction.old ds → IsErrOf result Fault.LogFull → (0 < log.new.refused) ⊎ IsOverfull compaction.old) }
     ensures refuses { 0 < log.new.refused → IsErrOf result Fault.LogFull }

@@ -1,5 +1,5 @@
 -- What a begin does, seen from the session in memory.
-use Rattle.std.proofs.Common.{◌≡◌, ◌∙◌, ℕ, Bool, true, false, cond, List, [], ◌∷◌, Option, Some, None, Result, Err, length, map, refl, sym, ap, subst}
+use Rattle.std.proofs.Common.{◌≡◌, ◌∙◌, inl, inr, ℕ, Bool, true, false, cond, List, [], ◌∷◌, Option, Some, None, Result, Err, length, map, refl, sym, ap, subst}
 use Rattle.std.proofs.lemmas.List.{length-map}
 use Rattle.std.specs.Prelude.{IsTrue, IfOk, OnOk, ◌||◌, ◌&&◌, nat_le, if◌then◌else◌, is_some, option_map, find}
 use Rattle.std.specs.BTreeMap.{is_at}

@@ -105,3 +105,10 @@ returns-in_err-part-clause-passes g c = λ ds tells held is.
           below_more old.keys old.parts ds (part + 1) old.parts (omega (arith, c.loop-part-test.true, c.requires.parts)),
           )))
     ]
+
+pub returns-clause-needed : goal.returns-clause-needed
+returns-clause-needed g c = λ ds tells held.
+    let h = c.loop-part.invariant in
+    let old = c.args.compaction.now in
+    let last : c.loop-part.part ≡ c.args.parts = omega (arith, c.loop-part-test.false, c.loop-part.far-part) in
+    h.needed ds tells held ∙ ap (λ n. tables_below old.keys n ds c.loop-part.part) c.requires.parts ∙ ap (tables_below old.keys c.args.parts ds) last

@@ -1,10 +1,12 @@
-use Rattle.std.proofs.Common.{inl, inr, ap, arith, map, subst}
+use Rattle.std.proofs.Common.{inl, inr, ◌∙◌, ap, arith, length, map, subst, sym}
 use Rattle.std.proofs.lemmas.Result.{err_from_is_err_and}
 use Rattle.std.specs.List.{sum_by}
 use Rattle.dfs_host.specs.Host.{bytes_of}
 use Rattle.dfs_record.specs.Delta.{delta}
 use Rattle.dfs_table.specs.Stored.{IsStored}
-use Rattle.dfs_compact.specs.Parts.{count_all}
+use Rattle.std.proofs.lemmas.List.{length-map}
+use Rattle.dfs_compact.specs.Parts.{count_all, first_keys, tables_below}
+use Rattle.dfs_compact.proofs.Sorted.{sorted_once}
 use Rattle.dfs_view.specs.Layers.{run_count}
 use Rattle.dfs_job.proofs.Parting.{merged_layers, passes_more, runs_are_sources}
 use Rattle.dfs_job.proofs.Plans.{counted_runs}
@@ -74,5 +76,22 @@ returns-in_err-merge_parts-clause-passes g c = λ ls tells stored is.
     let stands = c.in-Ok.ensures.stands files file (map delta ls) (runs_are_sources files file rs ls c.requires.own stored) in
     elim (c.merge_parts.ensures.passes (map delta ls) tells stands (cc (is, c.in_err-merge_parts.was, p.1, p.2))) [
       | inl some ↦ inl some
-      | inr many ↦ inr (record { keys = c.in-Ok.compaction.keys; sorted = c.in-Ok.ensures.sorted; firsts = c.in-Ok.ensures.keys; many = many })
+      | inr many ↦ inr (record { merged = λ one. c.requires.several (sym (length-map c.args.runs.now (λ r. r.value)) ∙ one); keys = c.in-Ok.compaction.keys; sorted = c.in-Ok.ensures.sorted; firsts = c.in-Ok.ensures.keys; many = many })
     ]
+
+pub returns-clause-too_many : goal.returns-clause-too_many
+returns-clause-too_many g c = λ ls tells stored passes.
+    let rs = map (λ r. r.value) c.args.runs.now in
+    let files = bytes_of (g.H.Host.state c.args.host.now) in
+    let file = c.args.log.now.file in
+    let stands = c.in-Ok.ensures.stands files file (map delta ls) (runs_are_sources files file rs ls c.requires.own stored) in
+    let same = sorted_once (first_keys rs) passes.keys c.in-Ok.compaction.keys passes.sorted c.in-Ok.ensures.sorted passes.firsts c.in-Ok.ensures.keys in
+    absurd
+    (omega (
+    arith,
+    passes.many,
+    ap (λ keys. tables_below keys c.args.parts (map delta ls) c.args.parts) same,
+    c.in_ok-merge_parts.ensures.needed (map delta ls) tells stands,
+    ap length c.take.ensures.tables,
+    c.take.ensures.few,
+    ))

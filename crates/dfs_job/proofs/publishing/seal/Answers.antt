@@ -80,3 +80,15 @@ returns-in_err-run-clause-passes g c = λ ls tells are is.
       | inl some ↦ inl some
       | inr many ↦ inr (subst (λ xs. Passes (map (λ r. r.value) xs) c.args.parts (map delta ls)) c.deref-2.ensures.value many)
     ]
+
+pub merge_runs-requires-clause-several : goal.merge_runs-requires-clause-several
+merge_runs-requires-clause-several g c = λ one. absurd (omega (arith, c.if-len-eq1.false, c.len.ensures, one, ap length c.deref-2.ensures.value))
+
+pub returns-then-len-eq1-clause-too_many : goal.returns-then-len-eq1-clause-too_many
+returns-then-len-eq1-clause-too_many g c = λ ls tells are passes. absurd (passes.merged (omega (arith, c.if-len-eq1.true, c.len.ensures, length-map c.args.layers.now.runs.items (λ r. r.value))))
+
+pub returns-clause-too_many : goal.returns-clause-too_many
+returns-clause-too_many g c = λ ls tells are passes.
+    let layers = c.args.layers.now in
+    let stored = subst (λ xs. AreStored (bytes_of (g.H.Host.state c.args.host.now) layers.log.file) (map (λ r. r.value) xs) ls) (sym c.deref-2.ensures.value) are.stored in
+    absurd (c.in_ok-run.ensures.too_many ls tells stored (subst (λ xs. Passes (map (λ r. r.value) xs) c.args.parts (map delta ls)) (sym c.deref-2.ensures.value) passes))

@@ -128,6 +128,19 @@ returns-clause-passes g c = λ j tells stands is.
       | inr many ↦ inr (subst (λ xs. Passes (map (λ r. r.value) xs) c.args.self.now.settings.parts (map delta ls)) (sym c.seal.ensures.same.1) many)
     ]
 
+pub returns-clause-too_many : goal.returns-clause-too_many
+returns-clause-too_many g c = λ j tells stands passes.
+    let of = c.in_ok-flush.ensures in
+    let mid = g.H.Host.state c.flush.new.host in
+    let file : c.flush.new.layers.log.file ≡ j.ids.job = of.works.file ∙ c.requires.sound.fit.file ∙ ap (λ (n : _). n.job) (sym stands.ids) in
+    let ls = (flushed j.layers).closed in
+    let are : IsSealable mid c.flush.new.layers.log.file (own_runs c.flush.new.layers) ls = record {
+      stored = (of.works.added tells refl j.layers stands.layers).closed;
+      own = subst (λ n. AllByRecursion (FitsJob n) (flat_map (λ (x : List _). x) ls)) (sym file)
+          (subst (AllByRecursion (FitsJob j.ids.job)) (sym (flushed_closed j.layers)) (all_weaker (IsRecordWithin j.ids) (FitsJob j.ids.job) (joined j.layers) (within_fits j.ids) stands.fair.own));
+    } in
+    c.seal.ensures.too_many ls (of.cause.tells ∙ tells) are (subst (λ xs. Passes (map (λ r. r.value) xs) c.args.self.now.settings.parts (map delta ls)) c.seal.ensures.same.1 passes)
+
 pub returns-in_err-flush-clause-passes : goal.returns-in_err-flush-clause-passes
 returns-in_err-flush-clause-passes g c = λ j tells stands is.
     let p = err_from_is_err_and c.from_residual.result c.from_residual.ensures.1 in

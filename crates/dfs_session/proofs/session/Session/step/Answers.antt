@@ -10,3 +10,6 @@ returns-in-Ok-clause-durable g c = λ s tells stands image left.
 
 pub returns-in-Ok-clause-kept : goal.returns-in-Ok-clause-kept
 returns-in-Ok-clause-kept g c = λ word names is selected. c.in-Ok.ensures.reads (subst (λ line. quiet_by line c.args.self.now) (sym is) selected)
+
+pub returns-in-Err-clause-passes : goal.returns-in-Err-clause-passes
+returns-in-Err-clause-passes g c = λ s tells stands is. c.work.ensures.passes s tells stands (c.in-Err.is ∙ is)

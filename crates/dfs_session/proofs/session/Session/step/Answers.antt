@@ -1,6 +1,8 @@
-use Rattle.std.proofs.Common.{◌∙◌, sym, subst}
+use Rattle.std.proofs.Common.{◌∙◌, inl, inr, sym, subst}
+use Rattle.dfs_script.specs.Line.{meaning}
 use Rattle.dfs_session.specs.Session.{step as step_of}
 use Rattle.dfs_session.specs.Worked.{quiet_by}
+use Rattle.dfs_session.proofs.Handed.{passes_still}
 use Rattle.dfs_session.proofs.Images.{image_holds}
 use Rattle.dfs_session.proofs.session.Session.step.Goals as goal
 
@@ -12,4 +14,7 @@ pub returns-in-Ok-clause-kept : goal.returns-in-Ok-clause-kept
 returns-in-Ok-clause-kept g c = λ word names is selected. c.in-Ok.ensures.reads (subst (λ line. quiet_by line c.args.self.now) (sym is) selected)
 
 pub returns-in-Err-clause-passes : goal.returns-in-Err-clause-passes
-returns-in-Err-clause-passes g c = λ s tells stands is. c.work.ensures.passes s tells stands (c.in-Err.is ∙ is)
+returns-in-Err-clause-passes g c = λ s tells stands is. elim (c.work.ensures.passes s tells stands (c.in-Err.is ∙ is)) [
+  | inl holds ↦ inl holds
+  | inr many ↦ inr (passes_still (meaning c.args.line.now) s c.args.self.now c.work.new.self many)
+]

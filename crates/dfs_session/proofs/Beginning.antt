@@ -1,5 +1,5 @@
 -- A job that begins.
-use Rattle.std.proofs.Common.{◌≡◌, ◌≢◌, ◌∙◌, ℕ, ◌+◌, ◌<◌, false, List, [], ◌∷◌, Some, None, map, Result, Ok, Err, refl, sym, ap, subst, arith}
+use Rattle.std.proofs.Common.{◌≡◌, ◌≢◌, ◌∙◌, inl, ℕ, ◌+◌, ◌<◌, false, List, [], ◌∷◌, Some, None, map, Result, Ok, Err, refl, sym, ap, subst, arith}
 use Rattle.std.proofs.lemmas.Bool.{or_from, ne_eqb}
 use Rattle.std.specs.Prelude.{IsTrue}
 use Rattle.std.specs.BTreeMap.{BTreeMap, insert_entry}
@@ -29,12 +29,12 @@ use Rattle.dfs_session.specs.declared.keeping.Kept.{Kept}
 use Rattle.dfs_session.specs.declared.session.Session.{Session as LiveSession}
 use Rattle.dfs_session.specs.Files.{value_on}
 use Rattle.dfs_session.specs.Images.{HoldsEither}
-use Rattle.dfs_session.specs.Kept.{EachBegun, IsIndexed, IsOwn, begin_in}
+use Rattle.dfs_session.specs.Kept.{EachBegun, IsIndexed, IsInside, IsOwn, begin_in}
 use Rattle.dfs_session.specs.Session.{Session, begins_over, word_cmp, Registry}
-use Rattle.dfs_session.specs.Sound.{AreApart, IsEntry, IsListed, IsLive, IsSound, NoneHas, PlainOf, live_in, number_of, jobs_of, listed_in}
+use Rattle.dfs_session.specs.Sound.{AreApart, HasItsBegin, IsEntry, IsListed, IsLive, IsSound, NoneHas, PlainOf, live_in, number_of, jobs_of, listed_in}
 use Rattle.dfs_session.specs.Stands.{EntryStands, Stands}
 use Rattle.dfs_session.specs.Worked.{AreNamed, HasNames, IsWorked, Work, beginning_over, has_refused}
-use Rattle.dfs_session.proofs.Begun.{each_begun, kept_still}
+use Rattle.dfs_session.proofs.Begun.{begin_still, both_mapped, each_begun, kept_still}
 use Rattle.dfs_session.proofs.Faults.{sound_refused, full_by}
 use Rattle.dfs_session.proofs.Images.{own_images}
 use Rattle.dfs_session.proofs.Jobs.{Live, all_insert, apart_insert, none_uninserted, zip_insert}
@@ -140,7 +140,7 @@ module _ (before after : HostState) (session : LiveSession) (sound : IsSound bef
   begun_images s later tells stands = own_images before after session s later number tells sound stands (λ is. absurd (omega (arith, is))) (unlisted_apart (listed_in session) number unlisted) only
 
   module _ (word : JobWord) (absent : live_in session word ≡ None) (job : LiveJob) (jobs : BTreeMap JobWord LiveJob) (inserted : jobs.entries ≡ insert_entry word_cmp (jobs_of session) word job) (is_sound : JobIsSound after job) (ids : job.ids ≡ first_ids number)
-      (entries : AllByRecursion (IsEntry (listed_in session)) (selected job.layers)) (opened : IsTrue before.tells → AllByRecursion (IsOwn before) (selected job.layers))
+      (entries : AllByRecursion (IsEntry (listed_in session)) (selected job.layers)) (inside : AllByRecursion IsInside (selected job.layers)) (opened : IsTrue before.tells → AllByRecursion (IsOwn before) (selected job.layers))
       (kept : Kept) (indexed : IsIndexed kept) (here : begin_in kept number ≡ selected job.layers) (other_begins : (other : ℕ) → other ≢ number → begin_in kept other ≡ begin_in session.kept other) where
     abbrev begun_session : LiveSession
     begun_session = record session { jobs = jobs; greatest = number; kept = kept }
@@ -177,6 +177,10 @@ module _ (before after : HostState) (session : LiveSession) (sound : IsSound bef
         apart = subst AreApart (sym inserted) (apart_insert (jobs_of session) word job (others (jobs_of session) sound.memory.jobs) sound.memory.apart);
         kept = indexed;
         entries = now_entries;
+        inside = each_begun IsInside session.kept kept number (selected job.layers) here other_begins inside sound.memory.inside;
+        basis = subst (λ (es : Live). AllByRecursion (λ e. HasItsBegin kept e.1) es) (sym inserted)
+            (all_insert (HasItsBegin kept) (jobs_of session) word job (inl (sym (ap (λ (i : Ids). begin_in kept i.job) ids ∙ here)))
+            (both_mapped (λ e. number_of e.1 ≢ number) (λ e. HasItsBegin session.kept e.1) (λ e. HasItsBegin kept e.1) (jobs_of session) (λ e other is. begin_still session.kept kept e.1 (other_begins (number_of e.1) other) is) (other_numbers (jobs_of session) sound.memory.jobs) sound.memory.basis));
         ended = λ n none.
             let both = none_uninserted (jobs_of session) word job n absent (subst (NoneHas n) inserted none) in
             other_begins n (λ is. both.0 (ap (λ (i : Ids). i.job) ids ∙ sym is)) ∙ sound.memory.ended n both.1;

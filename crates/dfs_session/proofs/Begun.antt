@@ -14,13 +14,15 @@ use Rattle.dfs_table.specs.Stored.{IsStored}
 use Rattle.dfs_registry.specs.declared.listed.Listed.{Listed}
 use Rattle.dfs_registry.specs.Body.{has_job, has_name, lists_job, lists_name}
 use Rattle.dfs_registry.specs.Reading.{IsListing, MayFollow}
+use Rattle.dfs_script.specs.declared.JobWord.{JobWord}
+use Rattle.dfs_job.specs.declared.job.Job.{Job as LiveJob}
 use Rattle.dfs_job.proofs.Apart.{selectable_still}
 use Rattle.dfs_session.specs.declared.keeping.Kept.{Kept}
 use Rattle.dfs_session.specs.declared.keeping.Use.{Use}
 use Rattle.dfs_session.specs.declared.session.Session.{Session as LiveSession}
 use Rattle.dfs_session.specs.Kept.{EachBegun, IsIndexed, IsKept, IsOwn, begin_in, kept_at, use_of}
 use Rattle.dfs_session.specs.Selected.{chosen_in, is_selected, listed_as}
-use Rattle.dfs_session.specs.Sound.{IsEntry, IsLive, IsSoundInMemory, jobs_of, listed_in, number_of}
+use Rattle.dfs_session.specs.Sound.{HasItsBegin, IsEntry, IsLive, IsSoundInMemory, jobs_of, listed_in, number_of}
 use Rattle.dfs_session.specs.Worked.{AreSelected}
 use Rattle.dfs_session.proofs.Lists.{mapped}
 use Rattle.dfs_session.proofs.Uses.{all_at, same_or_not}
@@ -56,6 +58,16 @@ pub record HasEnded (old new : Kept) (job : ℕ) : Type 0 where
 
 pub each_ended : (P : Change → Type 0) (old new : Kept) (job : ℕ) → HasEnded old new job → EachBegun P old → EachBegun P new
 each_ended P old new job ended all = each_begun P old new job [] ended.here ended.others tt all
+
+-- the basis of a job whose begin is kept as it was
+pub begin_still : (old new : Kept) (job : LiveJob) → begin_in new (number_of job) ≡ begin_in old (number_of job) → HasItsBegin old job → HasItsBegin new job
+begin_still old new job same (inl is) = inl (is ∙ sym same)
+begin_still old new job same (inr none) = inr none
+
+-- so of jobs beside one that ended
+pub begins_still : (old new : Kept) (job : ℕ) (es : List (JobWord × LiveJob)) → HasEnded old new job → AllByRecursion (λ e. job ≢ number_of e.1) es → AllByRecursion (λ e. HasItsBegin old e.1) es → AllByRecursion (λ e. HasItsBegin new e.1) es
+begins_still old new job es ended =
+    both_mapped (λ e. job ≢ number_of e.1) (λ e. HasItsBegin old e.1) (λ e. HasItsBegin new e.1) es (λ e apart is. begin_still old new e.1 (ended.others (number_of e.1) (λ same. apart (sym same))) is)
 
 pub still_none : (old new : Kept) (job : ℕ) → HasEnded old new job → (other : ℕ) → (job ≢ other → begin_in old other ≡ []) → begin_in new other ≡ []
 still_none old new job ended other none = by (same_or_not other job)

@@ -31,12 +31,12 @@ use Rattle.dfs_session.specs.declared.keeping.Kept.{Kept}
 use Rattle.dfs_session.specs.declared.session.Session.{Session as LiveSession}
 use Rattle.dfs_session.specs.Files.{value_on}
 use Rattle.dfs_session.specs.Images.{HoldsEither}
-use Rattle.dfs_session.specs.Kept.{IsOwn}
+use Rattle.dfs_session.specs.Kept.{IsInside, IsOwn, begin_in}
 use Rattle.dfs_session.specs.Session.{Registry, Session, Step, live_job, of_live, ends, word_cmp}
-use Rattle.dfs_session.specs.Sound.{AreApart, IsEntry, IsListed, IsLive, IsSound, NoneHas, PlainOf, jobs_of, listed_in, live_in, number_of}
+use Rattle.dfs_session.specs.Sound.{AreApart, HasItsBegin, IsEntry, IsListed, IsLive, IsSound, NoneHas, PlainOf, jobs_of, listed_in, live_in, number_of}
 use Rattle.dfs_session.specs.Stands.{EntryStands, LeavesValue, Stands}
 use Rattle.dfs_session.specs.Worked.{AreNamed, IsFullWhere, IsPast, IsShort, IsWorked, PartPasses, PublicationPasses, Work, has_refused, job_is, plain, with_plan_made}
-use Rattle.dfs_session.proofs.Begun.{HasEnded, each_ended, kept_still, still_none}
+use Rattle.dfs_session.proofs.Begun.{HasEnded, begins_still, each_ended, kept_still, still_none}
 use Rattle.dfs_session.proofs.Faults.{unrefused, each_unrefused, none_past, sound_refused, not_true}
 use Rattle.dfs_session.proofs.Handed.{fault_or, handed_cause}
 use Rattle.dfs_session.proofs.Images.{own_images, read_images}
@@ -47,6 +47,14 @@ use Rattle.dfs_session.proofs.Working.{OnlyMemory, ended_names, on_ok, same_name
 
 abbrev Jobs : Type 0
 Jobs = BTreeMap JobWord LiveJob
+
+-- the job has the basis that it had, or none
+abbrev pub LeavesBasis : LiveJob → LiveJob → Type 0
+LeavesBasis old new = (selected new.layers ≡ selected old.layers) ⊎ (selected new.layers ≡ [])
+
+pub left_basis : (old new : LiveJob) → (new.layers.basis.items ≡ old.layers.basis.items) ⊎ (new.layers.basis.items ≡ []) → LeavesBasis old new
+left_basis old new (inl same) = inl (ap (map (λ c. c.value)) same)
+left_basis old new (inr none) = inr (ap (map (λ c. c.value)) none)
 
 -- how many parts a line asks for
 pub parts_within : (parts : Option ℕ) → IfSome parts (λ n. IsTrue (is_parts n)) → IfSome parts (λ n. (1 ≤ n) × (n ≤ 256))
@@ -181,14 +189,17 @@ module _ (before after : HostState) (session : LiveSession) (word : JobWord) (li
               by (suc n) is = omega arith
 
       -- the same basis, and an empty one, have listed jobs alone
-      pub same_basis : selected new.layers ≡ selected live.layers → AllByRecursion (IsListed (listed_in session)) (selected new.layers)
-      same_basis same = subst (AllByRecursion (IsListed (listed_in session))) (sym same) was_live.basis
+      listed_basis : LeavesBasis live new → AllByRecursion (IsListed (listed_in session)) (selected new.layers)
+      listed_basis (inl same) = subst (AllByRecursion (IsListed (listed_in session))) (sym same) was_live.basis
+      listed_basis (inr none) = subst (AllByRecursion (IsListed (listed_in session))) (sym none) tt
 
-      pub left_basis : (new.layers.basis.items ≡ live.layers.basis.items) ⊎ (new.layers.basis.items ≡ []) → AllByRecursion (IsListed (listed_in session)) (selected new.layers)
-      left_basis (inl same) = same_basis (ap (map (λ c. c.value)) same)
-      left_basis (inr none) = subst (AllByRecursion (IsListed (listed_in session))) (sym (ap (map (λ c. c.value)) none)) tt
+      -- and are what the job's begin selected, or nothing
+      begun_basis : new.ids.job ≡ live.ids.job → LeavesBasis live new → HasItsBegin session.kept live → HasItsBegin session.kept new
+      begun_basis number (inl same) (inl was) = inl (same ∙ was ∙ ap (begin_in session.kept) (sym number))
+      begun_basis number (inl same) (inr none) = inr (same ∙ none)
+      begun_basis number (inr none) was = inr none
 
-      pub changed_sound : JobIsSound after new → new.ids.job ≡ live.ids.job → AllByRecursion (IsListed (listed_in session)) (selected new.layers) → IsSound after changed
+      pub changed_sound : JobIsSound after new → new.ids.job ≡ live.ids.job → LeavesBasis live new → IsSound after changed
       changed_sound is same basis = record {
         memory = record {
           live = sound.memory.live;
@@ -202,12 +213,15 @@ module _ (before after : HostState) (session : LiveSession) (word : JobWord) (li
                 fit = is.fit;
                 numbered = subst (λ (n : ℕ). n ≤ session.greatest) (sym same) was_live.numbered;
                 unlisted = subst (λ (n : ℕ). lists_job (listed_in session) n ≡ false) (sym same) was_live.unlisted;
-                basis = basis;
+                basis = listed_basis basis;
               })
               sound.memory.jobs);
           apart = subst AreApart (sym set) (apart_set test (jobs_of session) live new found same sound.memory.apart);
           kept = sound.memory.kept;
           entries = sound.memory.entries;
+          inside = sound.memory.inside;
+          basis = subst (λ (es : Live). AllByRecursion (λ e. HasItsBegin session.kept e.1) es) (sym set)
+              (all_set (HasItsBegin session.kept) test (jobs_of session) new (begun_basis same basis (all_found (HasItsBegin session.kept) test (jobs_of session) live sound.memory.basis found)) sound.memory.basis);
           ended = λ job none. sound.memory.ended job (none_unset test (jobs_of session) live new job found same (subst (NoneHas job) set none));
         };
         registry = registry_still;
@@ -255,7 +269,7 @@ module _ (before after : HostState) (session : LiveSession) (word : JobWord) (li
 
       -- a call on the job that was answered, and then the text of the reply
       pub answered_worked : (work : Work) (next : (s : Session) → Found before s word live → Step) (result : Result (Vec ℕ) Fault) → NoFault before after → new.layers.log.refused ≡ 0 → session.settings ≡ work.settings session.settings
-          → JobIsSound after new → new.ids.job ≡ live.ids.job → AllByRecursion (IsListed (listed_in session)) (selected new.layers)
+          → JobIsSound after new → new.ids.job ≡ live.ids.job → LeavesBasis live new
           → ((s : Session) (f : Found before s word live) → work.step s ≡ next s f) → ((s : Session) (f : Found before s word live) → (next s f).session.registry ≡ s.registry)
           → ((s : Session) (f : Found before s word live) → IsTrue before.tells → IfOk result (λ bytes. bytes.items ≡ text (next s f).reply))
           → ((s : Session) (f : Found before s word live) → IsTrue before.tells → Stands before session s → Stands after changed (next s f).session) → OnlyMemory result → (work.quiet session → ⊥) → IsWorked work before after session changed result
@@ -289,6 +303,9 @@ ended_worked host session word live jobs kept result sound found gone ended says
         apart = subst AreApart (sym gone) (apart_remove test (jobs_of session) sound.memory.apart);
         kept = ended.indexed;
         entries = each_ended (IsEntry (listed_in session)) session.kept kept (number_of live) ended sound.memory.entries;
+        inside = each_ended IsInside session.kept kept (number_of live) ended sound.memory.inside;
+        basis = subst (λ (es : Live). AllByRecursion (λ e. HasItsBegin kept e.1) es) (sym gone)
+            (begins_still session.kept kept (number_of live) (remove_entry test (jobs_of session)) ended (removed_apart test (jobs_of session) live found sound.memory.apart) (all_remove (HasItsBegin session.kept) test (jobs_of session) sound.memory.basis));
         ended = λ job none. still_none session.kept kept (number_of live) ended job (λ other. sound.memory.ended job (none_unremoved test (jobs_of session) live job found other (subst (NoneHas job) gone none)));
       };
       registry = sound.registry;

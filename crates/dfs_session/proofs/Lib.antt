@@ -12,6 +12,7 @@ mod Handed
 mod Working
 mod Changing
 mod Selecting
+mod Places
 mod Beginning
 mod Publishing
 mod Choosing

@@ -36,12 +36,12 @@ use Rattle.dfs_session.specs.declared.keeping.Kept.{Kept}
 use Rattle.dfs_session.specs.declared.session.Session.{Session as LiveSession}
 use Rattle.dfs_session.specs.Files.{publication_of, publications_of, value_read, value_on}
 use Rattle.dfs_session.specs.Images.{HoldsEither}
-use Rattle.dfs_session.specs.Kept.{EachBegun, IsOwn}
+use Rattle.dfs_session.specs.Kept.{EachBegun, IsInside, IsOwn}
 use Rattle.dfs_session.specs.Session.{Session, Step, Registry, of_live, publication_by, publishes_anew, word_cmp}
-use Rattle.dfs_session.specs.Sound.{AreApart, IsEntry, IsListed, IsLive, IsSound, NoneHas, PlainOf, number_of, jobs_of, listed_in, live_in}
+use Rattle.dfs_session.specs.Sound.{AreApart, HasItsBegin, IsEntry, IsListed, IsLive, IsSound, NoneHas, PlainOf, number_of, jobs_of, listed_in, live_in}
 use Rattle.dfs_session.specs.Stands.{EntryStands, Stands, LogIsSettled, LeavesValue}
 use Rattle.dfs_session.specs.Worked.{IsWorked, has_refused, job_is, publishing_anew}
-use Rattle.dfs_session.proofs.Begun.{HasEnded, each_ended, each_mapped, found_front, kept_still, still_none}
+use Rattle.dfs_session.proofs.Begun.{HasEnded, begins_still, each_ended, each_mapped, found_front, kept_still, still_none}
 use Rattle.dfs_session.proofs.Changing.{Found, found_job, listed_kept, own_job_images, own_keeps, own_value, was_live}
 use Rattle.dfs_session.proofs.Faults.{sound_refused, not_true, full_by}
 use Rattle.dfs_session.proofs.Handed.{fault_or, handed_cause}
@@ -236,6 +236,9 @@ module _ (before mid after : HostState) (session : LiveSession) (word : JobWord)
       kept = ended.indexed;
       entries = each_mapped (IsEntry (listed_in session)) (IsEntry registry.entries) kept_now
           (λ (c : Change) is. subst (λ (ls : List Listed). IsEntry ls c) (sym added) (found_front (has_name c.listed.name) (listed_in session) (listed ∷ []) c.listed is)) old_entries;
+      inside = each_ended IsInside session.kept kept_now live.ids.job ended sound.memory.inside;
+      basis = subst (λ (es : Live). AllByRecursion (λ e. HasItsBegin kept_now e.1) es) (sym gone)
+          (begins_still session.kept kept_now live.ids.job (remove_entry (is_at (word_cmp word)) (jobs_of session)) ended apart (all_remove (HasItsBegin session.kept) (is_at (word_cmp word)) (jobs_of session) sound.memory.basis));
       ended = λ job none. still_none session.kept kept_now live.ids.job ended job (λ other. sound.memory.ended job (none_unremoved (is_at (word_cmp word)) (jobs_of session) live job found other (subst (NoneHas job) gone none)));
     };
     registry = λ tells. registry_stands (sym listing.tells ∙ tells);

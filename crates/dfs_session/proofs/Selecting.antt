@@ -29,7 +29,7 @@ use Rattle.dfs_session.specs.Files.{publication_of, publications_of}
 use Rattle.dfs_session.specs.Selected.{AreChosen, listed_as, is_listed, chosen_in, IsSelection}
 use Rattle.dfs_session.specs.Session.{Publication, Registry, changes_of, is_damaged}
 use Rattle.dfs_session.specs.declared.keeping.Kept.{Kept}
-use Rattle.dfs_session.specs.Kept.{IsKept, IsOpened, IsOwn}
+use Rattle.dfs_session.specs.Kept.{IsInside, IsKept, IsOpened, IsOwn}
 use Rattle.dfs_session.specs.Sound.{IsEntry}
 use Rattle.dfs_job.proofs.Apart.{selectable_still}
 use Rattle.dfs_session.proofs.Kept.{reads_keep}
@@ -39,6 +39,7 @@ use Rattle.dfs_session.proofs.Lists.{mapped, take_next, parted, filter_map-appen
 pub record SoFar (start now : HostState) (ls : List Listed) (kept : Kept) (line : List SnapName) (index : ℕ) (cs : List Change) : Type 0 where
   pub chosen : Told start (AreChosen start (chosen_in ls (take index line)) cs)
   pub entries : AllByRecursion (IsEntry ls) cs
+  pub inside : AllByRecursion IsInside cs
   pub only : OnlyReads start now
   pub none : NoFault start now
   pub names : map (λ c. c.listed.name) cs ≡ take index line

@@ -20,7 +20,7 @@ use Rattle.dfs_session.specs.Files.{value_on}
 use Rattle.dfs_session.specs.Images.{HoldsEither}
 use Rattle.dfs_session.specs.Kept.{begin_in}
 use Rattle.dfs_session.specs.Session.{Session, Step, Registry, stays}
-use Rattle.dfs_session.specs.Sound.{IsSound, IsSoundInMemory, IsLive, AreApart, NoneHas, PlainOf, jobs_of, listed_in, number_of}
+use Rattle.dfs_session.specs.Sound.{HasItsBegin, IsSound, IsSoundInMemory, IsLive, AreApart, NoneHas, PlainOf, jobs_of, listed_in, number_of}
 use Rattle.dfs_session.specs.Stands.{EntryStands, Stands, LeavesValue}
 use Rattle.dfs_session.specs.Worked.{AreNamed, HasNames, IsWorked, Work, has_refused}
 use Rattle.dfs_record.specs.declared.SnapName.{SnapName}
@@ -129,6 +129,8 @@ same_sound host session jobs same sound = record {
     apart = subst AreApart (sym same) sound.memory.apart;
     kept = sound.memory.kept;
     entries = sound.memory.entries;
+    inside = sound.memory.inside;
+    basis = subst (λ (es : Live). AllByRecursion (λ e. HasItsBegin session.kept e.1) es) (sym same) sound.memory.basis;
     ended = subst (λ (es : Live). (job : ℕ) → NoneHas job es → begin_in session.kept job ≡ []) (sym same) sound.memory.ended;
   };
   registry = sound.registry;

@@ -9,6 +9,7 @@ use Rattle.dfs_record.specs.Delta.{Delta}
 use Rattle.dfs_registry.specs.declared.listed.Listed.{Listed}
 use Rattle.dfs_change.specs.declared.change.Change.{Change}
 use Rattle.dfs_change.specs.Meant.{log_meaning}
+use Rattle.dfs_table.specs.Writer.{AreIn}
 use Rattle.dfs_job.specs.Stands.{IsSelectable, IsStoredFor}
 use Rattle.dfs_session.specs.declared.keeping.Kept.{Kept}
 use Rattle.dfs_session.specs.declared.keeping.Use.{Use}
@@ -43,6 +44,10 @@ IsKept kept made = (user : ℕ) × (user ≤ 4294967295) × IsSome (kept_at kept
 pub record IsIndexed (kept : Kept) : Type 0 where
   pub begun : (u : Use) → IfSome (kept_at kept u) (λ c. (u.change ≡ c.listed.job) × Contains (begin_in kept u.job) c)
   pub each : (job : ℕ) → AllByRecursion (λ c. IsSome (kept_at kept (use_of job c))) (begin_in kept job)
+
+-- its tables lie in the file of the job that made it
+abbrev pub IsInside : Change → Type 0
+IsInside c = AreIn c.listed.job c.run.value.tables
 
 -- An opened change set: it is stored for what the log of the entry means, and may be selected.
 pub record IsOpened (host : HostState) (l : Listed) (c : Change) : Type 0 where

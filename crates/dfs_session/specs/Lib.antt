@@ -4,6 +4,7 @@ pub mod Isolation
 pub mod Files
 pub mod Kept
 pub mod Sound
+pub mod Places
 pub mod Stands
 pub mod Worked
 pub mod Selected

@@ -11,7 +11,7 @@ use Rattle.dfs_session.specs.declared.selection.Selection.{Selection}
 use Rattle.dfs_session.specs.declared.selection.Selection.TheVariants.{Changes, Damaged}
 use Rattle.dfs_session.specs.declared.session.Session.{Session as LiveSession}
 use Rattle.dfs_session.specs.Files.{publications_of}
-use Rattle.dfs_session.specs.Kept.{IsOwn, begin_in}
+use Rattle.dfs_session.specs.Kept.{IsInside, IsOwn, begin_in}
 use Rattle.dfs_session.specs.Session.{Publication, changes_of, is_damaged}
 use Rattle.dfs_session.specs.Sound.{IsEntry, jobs_of, number_of}
 
@@ -41,6 +41,11 @@ IsSelection host ls (Damaged name) = (p : Publication) × (find is_damaged (publ
 abbrev pub AreEntries : List Listed → Selection → Type 0
 AreEntries ls (Changes cs) = AllByRecursion (IsEntry ls) (map (λ c. c.value) cs.items)
 AreEntries ls (Damaged name) = Unit {0}
+
+-- the tables of each lie in its own file
+abbrev pub AreInside : Selection → Type 0
+AreInside (Changes cs) = AllByRecursion IsInside (map (λ c. c.value) cs.items)
+AreInside (Damaged name) = Unit {0}
 
 -- the changes are those of the names, in their order
 abbrev pub AreNamedBy : List SnapName → Selection → Type 0

@@ -1,5 +1,5 @@
 -- What is so of every session, whether the host tells or not.
-use Rattle.std.specs.Prelude.{◌≡◌, ◌≢◌, ◌≤◌, ℕ, true, false, IsFalse, List, [], ◌∷◌, find, Option, Some}
+use Rattle.std.specs.Prelude.{◌≡◌, ◌≢◌, ◌≤◌, ◌⊎◌, ℕ, true, false, IsFalse, List, [], ◌∷◌, find, Option, Some}
 use Rattle.std.specs.BTreeMap.{is_at}
 use Rattle.std.specs.Map.{lookup}
 use Rattle.std.specs.List.{AllByRecursion}
@@ -12,8 +12,9 @@ use Rattle.dfs_script.specs.declared.JobWord.{JobWord}
 use Rattle.dfs_view.specs.Layers.{selected}
 use Rattle.dfs_job.specs.declared.job.Job.{Job as LiveJob}
 use Rattle.dfs_job.specs.Stands.{AreSettings, JobIsFit, StandsForOne}
+use Rattle.dfs_session.specs.declared.keeping.Kept.{Kept}
 use Rattle.dfs_session.specs.declared.session.Session.{Session as LiveSession}
-use Rattle.dfs_session.specs.Kept.{EachBegun, IsIndexed, IsOwn, begin_in}
+use Rattle.dfs_session.specs.Kept.{EachBegun, IsIndexed, IsInside, IsOwn, begin_in}
 use Rattle.dfs_session.specs.Session.{word_cmp}
 
 -- the live jobs, in rising order of their words
@@ -45,6 +46,10 @@ pub record IsLive (greatest : ℕ) (listed : List Listed) (job : LiveJob) : Type
   pub unlisted : lists_job listed (number_of job) ≡ false
   pub basis : AllByRecursion (IsListed listed) (selected job.layers)
 
+-- The job's basis is what is kept of its begin, in the order of the names. Behind a plan over all it is empty.
+abbrev pub HasItsBegin : Kept → LiveJob → Type 0
+HasItsBegin kept job = (selected job.layers ≡ begin_in kept (number_of job)) ⊎ (selected job.layers ≡ [])
+
 -- no two of the jobs have one number
 abbrev pub AreApart : List (JobWord × LiveJob) → Type 0
 AreApart [] = Unit {0}
@@ -65,6 +70,8 @@ pub record IsSoundInMemory (session : LiveSession) : Type 0 where
   pub apart : AreApart (jobs_of session)
   pub kept : IsIndexed session.kept
   pub entries : EachBegun (IsEntry (listed_in session)) session.kept
+  pub inside : EachBegun IsInside session.kept
+  pub basis : AllByRecursion (λ e. HasItsBegin session.kept e.1) (jobs_of session)
   pub ended : (job : ℕ) → NoneHas job (jobs_of session) → begin_in session.kept job ≡ []
 
 -- a plain job that the live one stands for

@@ -21,7 +21,7 @@ impl Session {
     ghost use Rattle.dfs_host.specs.Host.{Told};
     ghost use Rattle.dfs_record.specs.Delta.{Delta};
     ghost use Rattle.dfs_job.specs.Stands.{IsStoredFor};
-    ghost use Rattle.dfs_session.specs.Kept.{IsOwn};
+    ghost use Rattle.dfs_session.specs.Kept.{IsInside, IsOwn};
     ghost use Rattle.dfs_session.specs.Selected.{is_listed};
     ghost use Rattle.dfs_session.specs.Sound.{IsEntry, IsSound, listed_in, jobs_of, live_in};
     ghost use Rattle.dfs_session.specs.Worked.{IsWorked, beginning, beginning_over};
@@ -79,6 +79,7 @@ impl Session {
     ) -> Result<Vec<u8>, Fault>
         requires sound { IsSound (H.state host.old) self.old }
         requires entries { AllByRecursion (IsEntry (listed_in self.old)) (map (λ c. c.value) changes.items) }
+        requires inside { AllByRecursion IsInside (map (λ c. c.value) changes.items) }
         requires opened { Told (H.state host.old) (AllByRecursion (IsOwn (H.state host.old)) (map (λ c. c.value) changes.items)) }
         requires last { self.old.greatest < 4294967294 }
         requires absent { live_in self.old word ≡ None }

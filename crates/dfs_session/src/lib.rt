@@ -7,6 +7,7 @@
 #![tactic(auto)]
 
 ghost use Rattle.dfs_session.specs.Isolation.{IsIsolated};
+ghost use Rattle.dfs_session.specs.Places.{ArePlaced};
 
 mod begin;
 mod commands;
@@ -21,4 +22,9 @@ pub use session::Session;
 /// What a job is told about its namespace are the answers that it would get alone.
 pub fn isolated()
     ensures { IsIsolated }
+{}
+
+/// The tables that a live job reads lie in its own file or in that of a name of its begin.
+pub fn placed()
+    ensures { ArePlaced }
 {}

@@ -5,8 +5,8 @@ ghost use Rattle.std.specs.List.{AllByRecursion, list_all};
 ghost use Rattle.dfs_host.specs.Fault.{HasFaultCause};
 ghost use Rattle.dfs_host.specs.Host.{Told, OnlyReads, bytes_of};
 ghost use Rattle.dfs_change.specs.Meant.{log_meaning};
-ghost use Rattle.dfs_session.specs.Kept.{EachBegun, IsIndexed, IsKept, IsOpened, IsOwn};
-ghost use Rattle.dfs_session.specs.Selected.{AreEntries, AreNamedBy, IsSelection, chosen_in, is_listed};
+ghost use Rattle.dfs_session.specs.Kept.{EachBegun, IsIndexed, IsInside, IsKept, IsOpened, IsOwn};
+ghost use Rattle.dfs_session.specs.Selected.{AreEntries, AreInside, AreNamedBy, IsSelection, chosen_in, is_listed};
 ghost use Rattle.dfs_session.specs.Sound.{IsEntry};
 
 use crate::keeping::Kept;
@@ -37,10 +37,12 @@ pub fn select<H: Host>(
     requires names { IsTrue (list_all (is_listed registry.now.entries) names.now) }
     requires kept { IsIndexed kept.now }
     requires entries { EachBegun (IsEntry registry.now.entries) kept.now }
+    requires inside { EachBegun IsInside kept.now }
     requires opened { Told (H.state host.old) (EachBegun (IsOwn (H.state host.old)) kept.now) }
 
     ensures selection { Told (H.state host.old) (IfOk result (IsSelection (H.state host.old) (chosen_in registry.now.entries names.now))) }
     ensures entries { IfOk result (AreEntries registry.now.entries) }
+    ensures inside { IfOk result AreInside }
     ensures names { IfOk result (AreNamedBy names.now) }
     ensures reads { AllByRecursion (λ l. IsKept kept.now l.job) (chosen_in registry.now.entries names.now) → OnOk result ((H.state host.new).reads ≡ (H.state host.old).reads) }
     ensures only { OnlyReads (H.state host.old) (H.state host.new) }
@@ -72,11 +74,13 @@ fn take<H: Host>(
 ) -> Result<Option<Rc<Change>>, Fault>
     requires kept { IsIndexed kept.now }
     requires own { EachBegun (λ c. c.listed.job ≡ listed.now.job → c.listed ≡ listed.now) kept.now }
+    requires inside { EachBegun IsInside kept.now }
     requires opened { Told (H.state host.old) (EachBegun (IsOwn (H.state host.old)) kept.now) }
 
     ensures opened { Told (H.state host.old) (IfOk result (λ found. IfSome found (λ change. IsOpened (H.state host.old) listed.now change.value))) }
     ensures damaged { Told (H.state host.old) (IfOk result (λ found. IfNone found (log_meaning (bytes_of (H.state host.old) listed.now.job) listed.now ≡ None))) }
     ensures listed { IfOk result (λ found. IfSome found (λ change. change.value.listed ≡ listed.now)) }
+    ensures inside { IfOk result (λ found. IfSome found (λ change. IsInside change.value)) }
     ensures reads { IsKept kept.now listed.now.job → (H.state host.new).reads ≡ (H.state host.old).reads }
     ensures only { OnlyReads (H.state host.old) (H.state host.new) }
     ensures cause { HasFaultCause (H.state host.old) (H.state host.new) result }
@@ -97,6 +101,7 @@ fn open<H: Host>(alloc: Global, host: &mut H, listed: &Listed) -> Result<Option<
     ensures opened { Told (H.state host.old) (IfOk result (λ found. IfSome found (λ change. IsOpened (H.state host.old) listed.now change.value))) }
     ensures damaged { Told (H.state host.old) (IfOk result (λ found. IfNone found (log_meaning (bytes_of (H.state host.old) listed.now.job) listed.now ≡ None))) }
     ensures listed { IfOk result (λ found. IfSome found (λ change. change.value.listed ≡ listed.now)) }
+    ensures inside { IfOk result (λ found. IfSome found (λ change. IsInside change.value)) }
     ensures only { OnlyReads (H.state host.old) (H.state host.new) }
     ensures cause { HasFaultCause (H.state host.old) (H.state host.new) result }
     ensures never_full { IsErrOf result Fault.LogFull → ⊥ }

@@ -1,7 +1,9 @@
-use Rattle.std.proofs.Common.{Err, ap}
+use Rattle.std.proofs.Common.{ℕ, Err, sym, ap, subst}
 use Rattle.dfs_host.specs.Host.{bytes_of}
 use Rattle.dfs_record.specs.Delta.{delta}
 use Rattle.dfs_table.specs.Stored.{run_records}
+use Rattle.dfs_table.specs.Writer.{AreIn}
+use Rattle.dfs_registry.specs.declared.listed.Listed.{Listed}
 use Rattle.dfs_change.proofs.Meant.{damaged_logs, whole_logs_mean}
 use Rattle.dfs_session.proofs.Selecting.{opened_for, opened_selectable}
 use Rattle.dfs_session.proofs.selection.open.Goals as goal
@@ -19,6 +21,11 @@ returns-in-Ok-clause-opened g c = λ tells.
       stored = opened_for host l change d of.listed (of.stored tells);
       selectable = opened_selectable host l change d of.listed (of.stored tells) of.file (of.within tells);
     }
+
+pub returns-in-Ok-clause-inside : goal.returns-in-Ok-clause-inside
+returns-in-Ok-clause-inside g c =
+    let change = c.in-Ok.change.value in
+    subst (λ (n : ℕ). AreIn n change.run.value.tables) (sym (ap (λ (l : Listed). l.job) c.in-Ok.ensures.listed)) c.in-Ok.ensures.file
 
 pub returns-in-Err-Malformed-clause-damaged : goal.returns-in-Err-Malformed-clause-damaged
 returns-in-Err-Malformed-clause-damaged g c = λ tells.

@@ -14,7 +14,7 @@ use Rattle.dfs_registry.specs.declared.listed.Listed.{Listed}
 use Rattle.dfs_registry.specs.Body.{has_name}
 use Rattle.dfs_session.specs.declared.selection.Selection.TheVariants.{Damaged}
 use Rattle.dfs_session.specs.Selected.{AreChosen, IsSelection, chosen_in}
-use Rattle.dfs_session.specs.Kept.{IsKept, IsOpened, IsOwn}
+use Rattle.dfs_session.specs.Kept.{IsInside, IsKept, IsOpened, IsOwn}
 use Rattle.dfs_session.specs.Sound.{IsEntry}
 use Rattle.dfs_session.proofs.Begun.{each_mapped, listed_name, one_entry, opened_still, own_entry}
 use Rattle.dfs_session.proofs.Selecting.{all_split, chosen_next, chosen_whole, first_damaged, if_none_at, if_ok_by, if_some_at, must_be_listed, next_chosen, no_fault, opened_before}
@@ -61,6 +61,7 @@ loop-index-preserved g c =
           (subst (λ (l : Listed). IsOpened start l change.value) (sym same) of) (so_far.chosen tells));
       entries = subst (AllByRecursion (IsEntry ls)) (sym more)
           (all_append (IsEntry ls) cs (change.value ∷ []) so_far.entries (subst (λ (l : Listed). find (has_name l.name) ls ≡ Some l) (sym same) registry_entry, tt));
+      inside = subst (AllByRecursion IsInside) (sym more) (all_append IsInside cs (change.value ∷ []) so_far.inside (if_some_at found _ change c.in_ok-change.ensures.inside c.in-Some-2.is, tt));
       only = reads_go_on so_far.only c.in_ok-change.ensures.only;
       none = none_by so_far.none c.in_ok-change.ensures.cause (λ is. no_fault (Ok found) found _ refl is);
       names = ap (map (λ d. d.listed.name)) more ∙ map-append (λ d. d.listed.name) cs (change.value ∷ [])

@@ -1,7 +1,7 @@
 use Rattle.std.proofs.Common.{◌∙◌, sym, ap, subst}
 use Rattle.dfs_change.specs.declared.change.Change.{Change}
 use Rattle.dfs_registry.specs.declared.listed.Listed.{Listed}
-use Rattle.dfs_session.specs.Kept.{IsOpened, IsOwn}
+use Rattle.dfs_session.specs.Kept.{IsInside, IsOpened, IsOwn}
 use Rattle.dfs_session.proofs.Begun.{found_is, of_found}
 use Rattle.dfs_session.proofs.selection.take.Goals as goal
 
@@ -19,3 +19,8 @@ pub returns-in-Ok-clause-listed : goal.returns-in-Ok-clause-listed
 returns-in-Ok-clause-listed g c =
     let at = c.in-Some.ensures.found in
     ap (λ (d : Change). d.listed) c.in-Ok.ensures.cases ∙ found_is c.args.kept.now c.args.listed.now at.0 c.in-Some.change.now.value c.requires.kept c.requires.own at.1
+
+pub returns-in-Ok-clause-inside : goal.returns-in-Ok-clause-inside
+returns-in-Ok-clause-inside g c =
+    let at = c.in-Some.ensures.found in
+    subst IsInside (sym c.in-Ok.ensures.cases) (of_found IsInside c.args.kept.now (record { change = c.args.listed.now.job; job = at.0 }) c.in-Some.change.now.value c.requires.kept c.requires.inside at.1)

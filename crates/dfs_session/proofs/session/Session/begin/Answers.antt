@@ -15,7 +15,7 @@ use Rattle.dfs_reply.specs.declared.Word.TheVariants as word
 use Rattle.dfs_session.specs.declared.selection.Selection.{Selection}
 use Rattle.dfs_session.specs.declared.selection.Selection.TheVariants.{Damaged}
 use Rattle.dfs_session.specs.Files.{publications_of}
-use Rattle.dfs_session.specs.Selected.{AreChosen, AreEntries, AreNamedBy, is_listed, chosen_in, IsSelection}
+use Rattle.dfs_session.specs.Selected.{AreChosen, AreEntries, AreInside, AreNamedBy, is_listed, chosen_in, IsSelection}
 use Rattle.dfs_session.specs.Session.{changes_of, stays}
 use Rattle.dfs_session.specs.Sound.{jobs_of, listed_in}
 use Rattle.dfs_session.specs.Worked.{IsWorked, beginning, beginning_over}
@@ -71,6 +71,9 @@ begin_over-requires-clause-sound g c = sound_reads (g.H.Host.state c.args.host.n
 
 pub begin_over-requires-clause-entries : goal.begin_over-requires-clause-entries
 begin_over-requires-clause-entries g c = subst (λ (selection : Selection). AreEntries (listed_in c.args.self.now) selection) c.in-Changes.is c.in_ok-changes.ensures.entries
+
+pub begin_over-requires-clause-inside : goal.begin_over-requires-clause-inside
+begin_over-requires-clause-inside g c = subst (λ (selection : Selection). AreInside selection) c.in-Changes.is c.in_ok-changes.ensures.inside
 
 pub begin_over-requires-clause-opened : goal.begin_over-requires-clause-opened
 begin_over-requires-clause-opened g c = λ tells.

@@ -10,7 +10,7 @@ use Rattle.dfs_host.proofs.Moments.{silent_only, silent_reads, reads_nothing}
 use Rattle.dfs_change.specs.declared.change.Change.{Change}
 use Rattle.dfs_job.specs.Stands.{IsSelectable}
 use Rattle.dfs_session.specs.declared.session.Session.{Session as LiveSession}
-use Rattle.dfs_session.specs.Kept.{IsOwn}
+use Rattle.dfs_session.specs.Kept.{IsInside, IsOwn}
 use Rattle.dfs_session.specs.Sound.{IsEntry, IsLive, jobs_of, listed_in, number_of}
 use Rattle.dfs_session.specs.Worked.{IsWorked, beginning_over}
 use Rattle.dfs_session.proofs.Selecting.{listed_earlier}
@@ -69,7 +69,7 @@ returns-in-Ok g c =
     λ basis is.
     subst (λ (cs : List Change). IsWorked (beginning_over c.args.word (map (λ c. c.listed.name) cs) basis) host after session (record session { jobs = c.insert.new.self; greatest = session.greatest + 1; kept = c.keep.new.self }) (Ok c.in_ok-reply.reply)) (sym selected)
     (begun_worked host after session c.requires.sound c.requires.last c.begin.ensures.only c.args.word c.requires.absent c.in_ok-job.job c.insert.new.self c.in-Ok.ensures.entries begun.sound begun.ids
-    (subst (AllByRecursion (IsEntry (listed_in session))) selected c.requires.entries) (λ tells. subst (AllByRecursion (IsOwn host)) selected (c.requires.opened tells))
+    (subst (AllByRecursion (IsEntry (listed_in session))) selected c.requires.entries) (subst (AllByRecursion IsInside) selected c.requires.inside) (λ tells. subst (AllByRecursion (IsOwn host)) selected (c.requires.opened tells))
     c.keep.new.self (kept _ c.keep.ensures.indexed) (kept _ c.keep.ensures.begun ∙ ap (map (λ r. r.value)) c.deref.ensures.value ∙ selected) (kept _ c.keep.ensures.others) basis c.in_ok-reply.reply (λ tells. begun.stands basis tells (is tells)) (fine_cause c.begin.result c.in_ok-job.job c.in_ok-job.was c.begin.ensures.cause c.begin.ensures.reads) c.begin.ensures.reads c.in_ok-reply.ensures.text)
 
 pub returns-in-Err : goal.returns-in-Err

@@ -13,7 +13,7 @@ use Rattle.dfs_job.specs.declared.job.Job.{Job as LiveJob}
 use Rattle.dfs_job.specs.Job.{Job, after_flush}
 use Rattle.dfs_session.specs.Session.{of_live, with_job}
 use Rattle.dfs_session.specs.Worked.{IsShort, IsWorked, flushing}
-use Rattle.dfs_session.proofs.Changing.{answered_worked, changed_stands, fault_worked, found_job, no_job, past_of, same_basis, was_sound}
+use Rattle.dfs_session.proofs.Changing.{answered_worked, changed_stands, fault_worked, found_job, no_job, past_of, was_sound}
 use Rattle.dfs_session.proofs.Handed.{none_unless}
 use Rattle.dfs_session.proofs.Selecting.{no_fault}
 use Rattle.dfs_session.proofs.Working.{stays_in_memory}
@@ -69,6 +69,6 @@ returns g c =
     let ok = no_fault c.flush.result tt in
     answered_worked before after session w live c.requires found c.flush.ensures.only x jobs set (flushing w) (λ s f. record { session = with_job s w (after_flush f.plain); reply = OkReply }) c.text_of-2.result
     (none_by (none_yet before) c.flush.ensures.cause (ok Disk c.in_ok-flush.was)) (none_unless x.layers.log.refused (λ some. ok LogFull c.in_ok-flush.was (c.flush.ensures.full.1 some))) refl of.sound (ap (λ (n : _). n.job) c.flush.ensures.number)
-    (same_basis before after session w live c.requires found c.flush.ensures.only x jobs set (ap (map (λ c. c.value)) c.flush.ensures.basis))
+    (inl (ap (map (λ c. c.value)) c.flush.ensures.basis))
     (λ s f. ap (λ (o : Option Job). of_live o s (λ j. record { session = with_job s w (after_flush j); reply = OkReply })) f.found) (λ s f. refl) (λ s f tells. c.text_of-2.ensures.text)
     (λ s f tells stands. changed_stands before after session w live c.requires found c.flush.ensures.only x jobs set s (after_flush f.plain) tells stands (of.stands f.plain tells f.is)) c.text_of-2.ensures.memory (λ quiet. quiet)

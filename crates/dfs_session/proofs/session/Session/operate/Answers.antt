@@ -17,7 +17,7 @@ use Rattle.dfs_job.specs.declared.job.Job.{Job as LiveJob}
 use Rattle.dfs_job.specs.Job.{Job, after, does}
 use Rattle.dfs_session.specs.Session.{of_live, operates, told}
 use Rattle.dfs_session.specs.Worked.{IsShort, IsWorked, operating, with_op}
-use Rattle.dfs_session.proofs.Changing.{answered_worked, changed_stands, fault_worked, found_job, no_job, past_of, same_basis, was_sound}
+use Rattle.dfs_session.proofs.Changing.{answered_worked, changed_stands, fault_worked, found_job, no_job, past_of, was_sound}
 use Rattle.dfs_session.proofs.Handed.{none_unless}
 use Rattle.dfs_session.proofs.Selecting.{no_fault}
 use Rattle.dfs_session.proofs.Working.{stays_in_memory}
@@ -76,7 +76,7 @@ returns g c =
     let answer = c.in_ok-answer.answer in
     let ok = no_fault c.op.result answer in
     answered_worked before after_op session w live c.requires.sound found c.op.ensures.only x jobs set (operating w op) (λ s f. operates s w f.plain (does f.plain op)) c.text_of-2.result (none_by (none_yet before) c.op.ensures.cause (ok Disk c.in_ok-answer.was))
-    (none_unless x.layers.log.refused (λ some. ok LogFull c.in_ok-answer.was (c.op.ensures.full.1 some))) refl of.sound of.number (same_basis before after_op session w live c.requires.sound found c.op.ensures.only x jobs set (ap (map (λ c. c.value)) c.op.ensures.basis))
+    (none_unless x.layers.log.refused (λ some. ok LogFull c.in_ok-answer.was (c.op.ensures.full.1 some))) refl of.sound of.number (inl (ap (map (λ c. c.value)) c.op.ensures.basis))
     (λ s f. ap (λ (o : Option Job). of_live o s (λ j. operates s w j (does j op))) f.found) (λ s f. refl)
     (λ s f tells. subst (λ (a : OpReply). IfOk c.text_of-2.result (λ bytes. bytes.items ≡ text (told a))) (of.answer f.plain tells f.is) (subst (λ (r : Reply). IfOk c.text_of-2.result (λ bytes. bytes.items ≡ text r)) c.told.ensures c.text_of-2.ensures.text))
     (λ s f tells stands. changed_stands before after_op session w live c.requires.sound found c.op.ensures.only x jobs set s (after f.plain (does f.plain op)) tells stands (of.stands f.plain tells f.is)) c.text_of-2.ensures.memory (λ quiet. quiet)

@@ -77,7 +77,7 @@ returns g c =
     let ok = no_fault c.part.result answer in
     answered_worked before after session w live c.requires found c.part.ensures.only x jobs set (merging w part) (λ s f. merges_with s w f.plain part) c.text_of-2.result
     (none_by (none_yet before) c.part.ensures.cause (ok Disk c.in_ok-answer.was)) (none_unless x.layers.log.refused (λ some. ok LogFull c.in_ok-answer.was (c.part.ensures.refuses some))) refl of.sound (ap (λ (n : _). n.job) c.part.ensures.number)
-    (left_basis before after session w live c.requires found c.part.ensures.only x jobs set c.part.ensures.basis)
+    (left_basis live x c.part.ensures.basis)
     (λ s f. ap (λ (o : Option Job). of_live o s (λ j. merges_with s w j part)) f.found) (λ s f. refl)
     (λ s f tells. subst (λ (a : JobPart). IfOk c.text_of-2.result (λ bytes. bytes.items ≡ text (told_of_part a))) (of.answer f.plain tells f.is) (subst (λ (r : Reply). IfOk c.text_of-2.result (λ bytes. bytes.items ≡ text r)) c.told_of_part.ensures c.text_of-2.ensures.text))
     (λ s f tells stands. changed_stands before after session w live c.requires found c.part.ensures.only x jobs set s (after_part f.plain part) tells stands (of.stands f.plain tells f.is)) c.text_of-2.ensures.memory (λ quiet. quiet)

@@ -17,7 +17,7 @@ use Rattle.dfs_job.specs.declared.answers.Planned.{Planned}
 use Rattle.dfs_job.specs.Job.{Job, after_plan}
 use Rattle.dfs_session.specs.Session.{of_live, plans_with, told_of_plan}
 use Rattle.dfs_session.specs.Worked.{IsShort, IsWorked, planning, with_plan_made}
-use Rattle.dfs_session.proofs.Changing.{answered_worked, changed_stands, fault_worked, found_job, no_job, parts_within, past_of, plan_short, same_basis, was_sound}
+use Rattle.dfs_session.proofs.Changing.{answered_worked, changed_stands, fault_worked, found_job, no_job, parts_within, past_of, plan_short, was_sound}
 use Rattle.dfs_session.proofs.Handed.{none_unless}
 use Rattle.dfs_session.proofs.Selecting.{no_fault}
 use Rattle.dfs_session.proofs.Working.{stays_in_memory}
@@ -80,7 +80,7 @@ returns g c =
     let ok = no_fault c.plan.result answer in
     answered_worked before after session w live c.requires.sound found c.plan.ensures.only x jobs set (planning w scope parts) (λ s f. plans_with s w f.plain scope parts) c.text_of-2.result
     (none_by (none_yet before) c.plan.ensures.cause (ok Disk c.in_ok-answer.was)) (none_unless x.layers.log.refused (λ some. ok LogFull c.in_ok-answer.was (c.plan.ensures.full.1 some))) refl of.sound (ap (λ (n : _). n.job) c.plan.ensures.number)
-    (same_basis before after session w live c.requires.sound found c.plan.ensures.only x jobs set (ap (map (λ c. c.value)) c.plan.ensures.basis))
+    (inl (ap (map (λ c. c.value)) c.plan.ensures.basis))
     (λ s f. ap (λ (o : Option Job). of_live o s (λ j. plans_with s w j scope parts)) f.found) (λ s f. refl)
     (λ s f tells. subst (λ (a : Planned). IfOk c.text_of-2.result (λ bytes. bytes.items ≡ text (told_of_plan a))) (of.answer f.plain tells f.is) (subst (λ (r : Reply). IfOk c.text_of-2.result (λ bytes. bytes.items ≡ text r)) c.told_of_plan.ensures c.text_of-2.ensures.text))
     (λ s f tells stands. changed_stands before after session w live c.requires.sound found c.plan.ensures.only x jobs set s (after_plan f.plain scope parts) tells stands (of.stands f.plain tells f.is)) c.text_of-2.ensures.memory (λ quiet. quiet)

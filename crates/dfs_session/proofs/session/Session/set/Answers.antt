@@ -28,6 +28,8 @@ returns c = λ host sound.
         apart = memory.apart;
         kept = memory.kept;
         entries = memory.entries;
+        inside = memory.inside;
+        basis = memory.basis;
         ended = memory.ended;
       };
       registry = sound.registry;

@@ -1,11 +1,11 @@
 //! The latest look-ups of a job: what was found at each of the keys that were asked for last.
 //!
 //! The layer above sees the list of its pairs, each a key and what was found there, the latest first. No key stands in
-//! it twice, and it is never longer than its capacity, which no call changes. A look-up takes a hash of its key,
-//! whatever the capacity is, and takes no memory.
+//! it twice, and it is never longer than its capacity, which no call changes. The pairs that go are those used longest
+//! ago. A look-up goes by a hash of its key, whose seed is fixed, and takes no memory.
 //!
-//! The definitions stand in `specs/`: the list and what each call makes of it in `Latest`, and what a list ends as
-//! after a look-up in `Ends`.
+//! The definitions stand in `specs/`: the list and what each call makes of it in `Latest`, what is found after runs of
+//! calls in `Runs`, and what a list ends as after a look-up in `Ends`.
 #![tactic(auto)]
 
 ghost use Rattle.std.specs.Prelude.{◌≡◌, ◌≤◌, [], option_copied, IfOk, OnOk, OnErr};
@@ -14,7 +14,10 @@ ghost use Rattle.std.specs.Map.{lookup};
 ghost use Rattle.dfs_cache.specs.Latest.{latest, brought_forward, put_first, taken_off, same_key, IsLatest};
 ghost use Rattle.dfs_cache.specs.Ends.{ends_as};
 
+mod laws;
+
 use dfs_record::{Entry, Key, NoMemory};
+pub use laws::what_is_found;
 use lru::LruCache;
 use std::alloc::Global;
 use std::marker::Model;

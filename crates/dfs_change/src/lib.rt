@@ -13,5 +13,5 @@ mod laws;
 mod sealing;
 
 pub use change::Change;
-pub use laws::{logs_are_whole_or_damaged, nothing_behind_means, one_record_more};
+pub use laws::{logs_are_whole_or_damaged, nothing_behind_means};
 pub use sealing::{ChangeWriter, Sealed};

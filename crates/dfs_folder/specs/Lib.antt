@@ -1,4 +1,3 @@
 pub mod FolderHost
 pub mod Names
 pub mod Opened
-pub mod Silent

@@ -34,8 +34,8 @@ fn write_out<W: Write>(output: &mut W, bytes: &[u8]) -> io::Result<()> {
 
 impl<W: Write + Drop> FolderHost<W> {
     ghost use Rattle.std.specs.Prelude.{◌≡◌, IfOk};
+    ghost use Rattle.dfs_host.specs.Host.{silent_state};
     ghost use Rattle.dfs_folder.specs.FolderHost.{state_of};
-    ghost use Rattle.dfs_folder.specs.Silent.{silent_host};
 
     /// A host over this folder, which nothing was asked yet: whether the folder is there shows at the first call on a file.
     ///
@@ -48,7 +48,7 @@ impl<W: Write + Drop> FolderHost<W> {
         output: W,
         folder: &str,
     ) -> Result<FolderHost<W>, NoMemory>
-        ensures start { IfOk result (λ host. state_of host ≡ silent_host 0 0 0) }
+        ensures start { IfOk result (λ host. state_of host ≡ silent_state 0 0 0) }
     {
         let folder = Folder::new(alloc, runtime, folder)?;
         Ok(FolderHost {

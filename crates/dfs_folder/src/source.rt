@@ -11,8 +11,7 @@ pub struct StdinSource<R: Read + Drop> {
 
 impl<R: Read + Drop> StdinSource<R> {
     ghost use Rattle.std.specs.Prelude.{◌≡◌};
-    ghost use Rattle.dfs_folder.specs.FolderHost.{source_of};
-    ghost use Rattle.dfs_folder.specs.Silent.{silent_source};
+    ghost use Rattle.dfs_folder.specs.FolderHost.{silent_source, source_of};
 
     /// A source of what this reader has left.
     pub fn new(reader: R) -> StdinSource<R>

@@ -21,7 +21,7 @@ made name job at len count = record { name = name; job = job; at = at; len = len
 same_made : (n o : List ℕ) (j k a b l m c d : ℕ) → n ≡ o → j ≡ k → a ≡ b → l ≡ m → c ≡ d → made n j a l c ≡ made o k b m d
 same_made n o j k a b l m c d p q r s t = cc
 
-same_fields : (a b : Listed) → a.name ≡ b.name → a.job ≡ b.job → a.at ≡ b.at → a.len ≡ b.len → a.count ≡ b.count → a ≡ b
+pub same_fields : (a b : Listed) → a.name ≡ b.name → a.job ≡ b.job → a.at ≡ b.at → a.len ≡ b.len → a.count ≡ b.count → a ≡ b
 unfolding made
 same_fields a b p q r s t = same_made _ _ _ _ _ _ _ _ _ _ p q r s t
 

@@ -7,10 +7,10 @@ use Rattle.dfs_registry.specs.declared.listed.Listed.{Listed}
 use Rattle.dfs_registry.specs.declared.gate.Gate.{Gate}
 use Rattle.dfs_registry.specs.declared.gate.Gate.TheVariants.{Closed, Broken, Open}
 use Rattle.dfs_registry.specs.Body.{body, fields, has_body, read_body}
-use Rattle.dfs_registry.specs.Reading.{is_open, step, IsBody}
+use Rattle.dfs_registry.specs.Reading.{is_open, step, AreBytes, IsBody}
 use Rattle.dfs_registry.specs.Opening.{IsGate, FitsBody, IsOpened, IsBroken}
 use Rattle.dfs_registry.proofs.Bodies.{short_name}
-use Rattle.dfs_registry.proofs.Parsing.{AreBytes, Whole, whole, named, spelled_by, is_body}
+use Rattle.dfs_registry.proofs.Parsing.{Whole, whole, named, spelled_by, is_body}
 
 pub shut_short : (p : List ℕ) → length p < 2 → is_open p ≡ false
 unfolding is_open

@@ -10,6 +10,7 @@ mod entries;
 mod fault;
 mod format;
 mod gate;
+mod laws;
 mod listed;
 mod opening;
 mod parse;
@@ -19,6 +20,7 @@ mod registry;
 mod settle;
 
 pub use fault::RegFault;
+pub use laws::what_is_written_is_read;
 pub use listed::Listed;
 pub use pending::{Pending, PrepFault};
 pub use registry::Registry;

@@ -4,8 +4,7 @@ ghost use Rattle.dfs_registry.specs.Body.{body_size, fields, has_body, has_front
 
 use crate::Listed;
 use crate::format::{BODY_LEN, COUNTED_LEN, GREATEST_JOB, PUBLICATION};
-use byteorder::{BigEndian, ByteOrder};
-use dfs_record::{NameFault, NoMemory, SnapName, is_snap_name_text};
+use dfs_record::{NameFault, NoMemory, SnapName, is_snap_name_text, read_u16, read_u32, read_u64};
 use std::alloc::Global;
 
 // Whether a whole body stands at the front.
@@ -18,22 +17,22 @@ pub fn has_body(bytes: &[u8]) -> bool
     has_front(bytes) && has_listable(bytes)
 }
 
+#[tactic(auto, using(crate::proofs::Numbers::in_two))]
 fn has_front(bytes: &[u8]) -> bool
     requires { 28 ≤ length bytes.now }
     ensures { result ≡ has_front bytes.now }
 {
-    BigEndian::read_u16(bytes) as usize == COUNTED_LEN as usize + bytes[3] as usize
-        && bytes[2] == PUBLICATION
+    read_u16(bytes) == Some(COUNTED_LEN + u16::from(bytes[3])) && bytes[2] == PUBLICATION
 }
 
-#[tactic(auto, unfolding(crate::specs::Body::fields))]
+#[tactic(auto, using(crate::proofs::Numbers::in_four), unfolding(crate::specs::Body::fields))]
 fn has_listable(bytes: &[u8]) -> bool
     requires { body_size (slice_index bytes.now 3) ≤ length bytes.now }
     ensures { result ≡ is_listable (fields bytes.now) }
 {
     let name_len = bytes[3] as usize;
     is_snap_name_text(&bytes[4..4 + name_len])
-        && is_job(BigEndian::read_u32(&bytes[4 + name_len..]))
+        && read_u32(&bytes[4 + name_len..]).is_some_and(|job| is_job(job))
 }
 
 fn is_job(job: u32) -> bool
@@ -43,7 +42,6 @@ fn is_job(job: u32) -> bool
 }
 
 // The body that stands at the front.
-#[tactic(auto, unfolding(crate::specs::Body::fields))]
 pub fn read_fields(alloc: Global, bytes: &[u8]) -> Result<Listed, NoMemory>
     requires whole { body_size (slice_index bytes.now 3) ≤ length bytes.now }
     requires name { IsTrue (is_snap_name (take (slice_index bytes.now 3) (drop 4 bytes.now))) }
@@ -55,11 +53,19 @@ pub fn read_fields(alloc: Global, bytes: &[u8]) -> Result<Listed, NoMemory>
         Err(NameFault::NoMemory) => return Err(NoMemory),
         Err(NameFault::Bad) => unreachable!(),
     };
+    let (Some(job), Some(at), Some(len), Some(count)) = (
+        read_u32(&bytes[4 + name_len..]),
+        read_u64(&bytes[8 + name_len..]),
+        read_u32(&bytes[16 + name_len..]),
+        read_u64(&bytes[20 + name_len..]),
+    ) else {
+        unreachable!()
+    };
     Ok(Listed {
         name,
-        job: BigEndian::read_u32(&bytes[4 + name_len..]),
-        at: BigEndian::read_u64(&bytes[8 + name_len..]),
-        len: BigEndian::read_u32(&bytes[16 + name_len..]),
-        count: BigEndian::read_u64(&bytes[20 + name_len..]),
+        job,
+        at,
+        len,
+        count,
     })
 }

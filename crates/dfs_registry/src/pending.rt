@@ -1,12 +1,18 @@
 use crate::Listed;
 use dfs_record::{NoMemory, SnapName};
 use std::marker::Model;
+use thiserror::Error;
 
-/// Why a publication is not prepared: its name is listed, the registry has its greatest number of entries, or memory ran out.
-#[derive(Clone, Copy, Debug, PartialEq, Eq)]
+/// Why a publication is not prepared.
+#[derive(Clone, Copy, Debug, PartialEq, Eq, Error)]
 pub enum PrepFault {
+    /// Its name is listed.
+    #[error("Taken")]
     Taken,
+    /// The registry has its greatest number of entries.
+    #[error("Full")]
     Full,
+    #[error("NoMemory")]
     NoMemory,
 }
 

@@ -4,7 +4,7 @@ use Rattle.std.specs.List.{AllByRecursion}
 use Rattle.std.proofs.Common.{sym, ◌∙◌, ap, subst, inl, inr, arith, length-append, append_assoc}
 use Rattle.std.proofs.lemmas.List.{take_all, take-take, length-take, append-nil}
 use Rattle.dfs_host.specs.Host.{bytes_of, Only}
-use Rattle.dfs_host.proofs.Moments.{nothing_done, only_goes_on}
+use Rattle.dfs_host.proofs.Moments.{nothing_done, only_goes_on, reads_nothing, reads_go_on}
 use Rattle.dfs_record.specs.declared.Record.{Record}
 use Rattle.dfs_table.proofs.Stays.{all_append}
 use Rattle.dfs_view.specs.Lists.{Layered, add_one, add_all}
@@ -70,11 +70,16 @@ either : (b : Bool) → (b ≡ true) ⊎ (b ≡ false)
 either true = inl refl
 either false = inr refl
 
+both_none : (rs ss : List Record) → rs ++ ss ≡ [] → (rs ≡ []) × (ss ≡ [])
+both_none [] ss none = (refl, none)
+both_none (r ∷ rs) ss none = absurd (cc none)
+
 pub view_follows_itself : (v : Parts) → (IsFalse v.spent → AreFit v.layers) → ViewFollows v v []
 view_follows_itself v fit = record {
   same_host = refl;
   same_layers = refl;
   live = λ live. goes_on_by_nothing (pair_of v) (ap not live) (fit live).none_refused;
+  looked = λ none. reads_nothing v.host;
   spent = λ spent. record { same = refl; none = refl };
 }
 
@@ -90,6 +95,7 @@ view_follows_on v w x rs ss first second = record {
         (subst (λ (y : Parts). GoesOn (pair_of v) (pair_of y) rs) (sym stays.same) (first.live live))
     | inr still ↦ goes_on_on (pair_of v) (pair_of w) (pair_of x) rs ss (ap not still) (first.live live) (second.live still)
   ];
+  looked = λ none. let both = both_none rs ss none in reads_go_on (first.looked both.0) (second.looked both.1);
   spent = λ spent.
       let one = first.spent spent in
       let two = second.spent (ap (λ (y : Parts). y.spent) one.same ∙ spent) in

@@ -2,7 +2,7 @@
 use Rattle.std.specs.Prelude.{◌≡◌, ◌<◌, ◌≤◌, ◌+◌, ◌*◌, ℕ, Bool, not, IsTrue, IsFalse, cond, List, [], ◌∷◌, ◌++◌, length, take, Result, OnOk, OnErr}
 use Rattle.std.specs.Borrow.{GName}
 use Rattle.std.specs.List.{AllByRecursion, sum_by}
-use Rattle.dfs_host.specs.Host.{HostState, now, Told, bytes_of, Only}
+use Rattle.dfs_host.specs.Host.{HostState, now, Told, bytes_of, Only, OnlyReads}
 use Rattle.dfs_buffer.specs.Buffer.{nothing}
 use Rattle.dfs_log.specs.Logs.{LogStands}
 use Rattle.dfs_record.specs.declared.Record.{Record}
@@ -102,4 +102,6 @@ pub record ViewFollows (old new : Parts) (records : List Record) : Type 0 where
   pub same_host : new.host_name ≡ old.host_name
   pub same_layers : new.layers_name ≡ old.layers_name
   pub live : IsFalse old.spent → GoesOn (pair_of old) (pair_of new) records
+  -- where no record came in nothing was written
+  pub looked : records ≡ [] → OnlyReads old.host new.host
   pub spent : IsTrue old.spent → Stays old new records

@@ -78,7 +78,7 @@ pub(crate) fn add<H: Host>(
     close(alloc, host, layers)
 }
 
-/// Closes the open layer, where it has a record. `LogFull` exactly where the log refused a piece.
+/// Closes the open layer, where it has a record; the map stays. `LogFull` exactly where the log refused a piece.
 pub fn flush<H: Host>(alloc: Global, host: &mut H, layers: &mut Layers) -> Result<(), Fault>
     requires fit { AreFit layers.old }
     requires stand { Told (H.state host.old) (Stand (H.state host.old) layers.old) }
@@ -86,6 +86,7 @@ pub fn flush<H: Host>(alloc: Global, host: &mut H, layers: &mut Layers) -> Resul
     ensures fit { OnOk result (AreFit layers.new) }
     ensures stand { Told (H.state host.old) (OnOk result (Stand (H.state host.new) layers.new)) }
     ensures emptied { OnOk result (layers.new.buffer.made ≡ 0) }
+    ensures map { Told (H.state host.old) (OnOk result (layers_map (H.state host.new) layers.new ≡ layers_map (H.state host.old) layers.old)) }
     // No record comes in, and the open layer closes where it has one.
     ensures works { WorksOn (record { host = H.state host.old; layers = layers.old; live = true }) (record { host = H.state host.new; layers = layers.new; live = is_ok result }) 0 flushed }
     ensures full { IsErrOf result Fault.LogFull ↔ (0 < layers.new.log.refused) }

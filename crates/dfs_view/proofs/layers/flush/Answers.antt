@@ -1,6 +1,6 @@
 use Rattle.std.proofs.Common.{arith}
 use Rattle.dfs_view.specs.Lists.{flushed}
-use Rattle.dfs_view.proofs.Adding.{closed_stand, closes_with_all, closing_works, none_to_close, on_ok}
+use Rattle.dfs_view.proofs.Adding.{closed_map, closed_stand, closes_with_all, closing_works, none_to_close, on_ok}
 use Rattle.dfs_view.proofs.layers.flush.Goals as goal
 
 pub returns-clause-works : goal.returns-clause-works
@@ -16,3 +16,8 @@ pub returns-clause-stand : goal.returns-clause-stand
 returns-clause-stand g c = λ tells.
     on_ok c.close.result c.close.ensures.closes.closed
     (λ closed. closed_stand (g.H.Host.state c.args.host.now) (g.H.Host.state c.close.new.host) c.args.layers.now c.close.new.layers c.close.ensures.closes tells (c.requires.stand tells) closed)
+
+pub returns-clause-map : goal.returns-clause-map
+returns-clause-map g c = λ tells.
+    on_ok c.close.result c.close.ensures.closes.closed
+    (λ closed. closed_map (g.H.Host.state c.args.host.now) (g.H.Host.state c.close.new.host) c.args.layers.now c.close.new.layers c.close.ensures.closes tells (c.requires.stand tells) closed)

@@ -320,7 +320,7 @@ looks v host s live fit same = record {
   same_host = refl;
   same_layers = refl;
   live = λ _. subst (λ h. GoesOn (pair_of v) (record { host = h; layers = v.layers; live = not s }) []) (sym same) (by s);
-  looked = λ none. subst (OnlyReads v.host) (sym same) (reads_nothing v.host);
+  room = λ fits. record { reads = subst (OnlyReads v.host) (sym same) (reads_nothing v.host); log = refl };
   spent = λ spent. absurd (cc (live, spent));
 }
   where

@@ -92,6 +92,11 @@ pub record Parts : Type 0 where
 abbrev pub pair_of : Parts → Pair
 pair_of parts = record { host = parts.host; layers = parts.layers; live = not parts.spent }
 
+-- Nothing is written, and the log is as before.
+pub record LeavesLog (host host_after : HostState) (old new : Layers) : Type 0 where
+  pub reads : OnlyReads host host_after
+  pub log : new.log ≡ old.log
+
 -- A spent view is followed by itself alone.
 pub record Stays (old new : Parts) (records : List Record) : Type 0 where
   pub same : new ≡ old
@@ -102,6 +107,6 @@ pub record ViewFollows (old new : Parts) (records : List Record) : Type 0 where
   pub same_host : new.host_name ≡ old.host_name
   pub same_layers : new.layers_name ≡ old.layers_name
   pub live : IsFalse old.spent → GoesOn (pair_of old) (pair_of new) records
-  -- where no record came in nothing was written
-  pub looked : records ≡ [] → OnlyReads old.host new.host
+  -- as long as the open layer has room for the records
+  pub room : old.layers.buffer.made + length records < old.layers.limit → LeavesLog old.host new.host old.layers new.layers
   pub spent : IsTrue old.spent → Stays old new records

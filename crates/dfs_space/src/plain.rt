@@ -115,7 +115,7 @@ fn span(alloc: Global, dir: DirId) -> Result<(Bound<Key>, Bound<Key>), NoMemory>
     }
 }
 
-/// It tells, and answers no fault but `NoMemory`.
+/// It tells, answers no fault but `NoMemory`, and goes on after one.
 impl Space for PlainSpace {
     ghost use Rattle.std.specs.Prelude.{◌≡◌, refl};
     ghost use Rattle.dfs_space.specs.PlainSpace.{plain_state, plain_follows, plain_follows_itself, plain_follows_on};
@@ -125,6 +125,8 @@ impl Space for PlainSpace {
     ghost state = { λ s. plain_state };
 
     ghost follows = { plain_follows };
+
+    ghost AfterFault = { λ s. Unit {0} };
 
     ghost told = { λ x m is. refl };
 

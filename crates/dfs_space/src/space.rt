@@ -1,4 +1,4 @@
-ghost use Rattle.std.specs.Prelude.{◌≡◌, ◌++◌, List, [], ◌∷◌, All, IsTrue, IfOk, IfSome, OnOk, IsErrOf};
+ghost use Rattle.std.specs.Prelude.{◌≡◌, ◌++◌, List, [], ◌∷◌, All, IsTrue, IfOk, IfSome, OnOk, OnErr, IsErrOf};
 ghost use Rattle.dfs_record.specs.KeyMap.{get};
 ghost use Rattle.dfs_record.specs.Namespace.{Namespace, after_record};
 ghost use Rattle.dfs_record.specs.Record.{IsKey, IsEntry, IsRecord};
@@ -24,6 +24,9 @@ pub trait Space {
     /// The later state comes of the earlier one by these records, faults included.
     ghost follows: { Self → Self → List Record → Type 0 };
 
+    /// What a fault of a call leaves of the space, which may be spent then.
+    ghost AfterFault: { Self → Type 0 };
+
     /// What the map has at a key.
     fn lookup(&mut self, key: &Key) -> Result<Option<Entry>, Fault>
         requires ready { IsReady (state self.old) }
@@ -34,6 +37,7 @@ pub trait Space {
         ensures map { (m : Namespace) → StandsFor self.old m → StandsFor self.new m }
         ensures follows { follows self.old self.new [] }
         ensures cause { HasSpaceCause (state self.old) (state self.new) result }
+        ensures after_fault { OnErr result (AfterFault self.new) }
         ensures never_full { IsErrOf result Fault.LogFull → ⊥ };
 
     /// Whether some key of the map has the directory as its parent.
@@ -44,6 +48,7 @@ pub trait Space {
         ensures map { (m : Namespace) → StandsFor self.old m → StandsFor self.new m }
         ensures follows { follows self.old self.new [] }
         ensures cause { HasSpaceCause (state self.old) (state self.new) result }
+        ensures after_fault { OnErr result (AfterFault self.new) }
         ensures never_full { IsErrOf result Fault.LogFull → ⊥ };
 
     /// The names in a directory with their entries, in the order of the names' bytes.
@@ -55,6 +60,7 @@ pub trait Space {
         ensures map { (m : Namespace) → StandsFor self.old m → StandsFor self.new m }
         ensures follows { follows self.old self.new [] }
         ensures cause { HasSpaceCause (state self.old) (state self.new) result }
+        ensures after_fault { OnErr result (AfterFault self.new) }
         ensures never_full { IsErrOf result Fault.LogFull → ⊥ };
 
     /// A put sets its key, a deletion removes it. After a fault nothing is said of the map.
@@ -64,7 +70,8 @@ pub trait Space {
 
         ensures map { (m : Namespace) → StandsFor self.old m → OnOk result (StandsFor self.new (after_record m rec)) }
         ensures follows { follows self.old self.new (rec ∷ []) }
-        ensures cause { HasSpaceCause (state self.old) (state self.new) result };
+        ensures cause { HasSpaceCause (state self.old) (state self.new) result }
+        ensures after_fault { OnErr result (AfterFault self.new) };
 
     ghost told: { (x : Self) (m : Namespace) → StandsFor x m → IsTrue (state x).tells };
 

@@ -6,9 +6,9 @@ use Rattle.std.proofs.lemmas.Bool.Decides.{nat_tests}
 use Rattle.std.proofs.lemmas.Grind.{flat_map-append}
 use Rattle.std.proofs.lemmas.List.{map-append, take-append-drop}
 use Rattle.std.proofs.lemmas.List.Sums.{fold-append, sum_by-append, sum_by-cons}
-use Rattle.dfs_host.specs.Host.{HostState, Told, bytes_of, now}
+use Rattle.dfs_host.specs.Host.{HostState, OnlyReads, Told, bytes_of, now}
 use Rattle.dfs_host.specs.declared.fault.Fault.{Fault}
-use Rattle.dfs_host.proofs.Moments.{nothing_done}
+use Rattle.dfs_host.proofs.Moments.{nothing_done, reads_nothing}
 use Rattle.dfs_record.specs.declared.Record.{Record}
 use Rattle.dfs_record.specs.declared.Key.{Key}
 use Rattle.dfs_record.specs.declared.Value.{Value}
@@ -320,6 +320,7 @@ looks v host s live fit same = record {
   same_host = refl;
   same_layers = refl;
   live = λ _. subst (λ h. GoesOn (pair_of v) (record { host = h; layers = v.layers; live = not s }) []) (sym same) (by s);
+  room = λ fits. record { reads = subst (OnlyReads v.host) (sym same) (reads_nothing v.host); log = refl };
   spent = λ spent. absurd (cc (live, spent));
 }
   where

@@ -1,15 +1,16 @@
 -- The two laws of a view.
-use Rattle.std.specs.Prelude.{◌≡◌, ◌≤◌, ◌+◌, ◌*◌, ◌⊎◌, ℕ, Bool, true, false, not, IsTrue, IsFalse, cond, List, [], ◌∷◌, ◌++◌, length, take, refl}
-use Rattle.std.specs.List.{AllByRecursion}
+use Rattle.std.specs.Prelude.{◌≡◌, ◌≤◌, ◌<◌, ◌+◌, ◌*◌, ◌⊎◌, ℕ, Bool, true, false, not, IsTrue, IsFalse, cond, List, [], ◌∷◌, ◌++◌, length, take, refl}
+use Rattle.std.specs.List.{AllByRecursion, sum_by}
 use Rattle.std.proofs.Common.{sym, ◌∙◌, ap, subst, inl, inr, arith, length-append, append_assoc}
 use Rattle.std.proofs.lemmas.List.{take_all, take-take, length-take, append-nil}
+use Rattle.std.proofs.lemmas.List.Sums.{sum_by-append}
 use Rattle.dfs_host.specs.Host.{bytes_of, Only}
-use Rattle.dfs_host.proofs.Moments.{nothing_done, only_goes_on}
+use Rattle.dfs_host.proofs.Moments.{nothing_done, only_goes_on, reads_nothing, reads_go_on}
 use Rattle.dfs_record.specs.declared.Record.{Record}
 use Rattle.dfs_table.proofs.Stays.{all_append}
 use Rattle.dfs_view.specs.Lists.{Layered, add_one, add_all}
-use Rattle.dfs_view.specs.Layers.{AreFit, StandFor, own_runs}
-use Rattle.dfs_view.specs.View.{Pair, GoesOn, IsOwnRun, Parts, closed_count, pair_of, ViewFollows}
+use Rattle.dfs_view.specs.Layers.{AreFit, StandFor, own_runs, run_count}
+use Rattle.dfs_view.specs.View.{Pair, GoesOn, IsOwnRun, LeavesLog, Parts, closed_count, pair_of, ViewFollows}
 
 pub add_all-append : (limit : ℕ) (l : Layered) (rs ss : List Record) → add_all limit l (rs ++ ss) ≡ add_all limit (add_all limit l rs) ss
 add_all-append limit l [] ss = refl
@@ -70,11 +71,37 @@ either : (b : Bool) → (b ≡ true) ⊎ (b ≡ false)
 either true = inl refl
 either false = inr refl
 
+-- the open layer gets no more records than came in
+made_grows : (p q : Pair) (rs : List Record) → IsTrue q.live → GoesOn p q rs → q.layers.buffer.made ≤ p.layers.buffer.made + length rs
+made_grows p q rs live on =
+    let one = subst (λ (b : Bool). closed_count q.layers + cond b q.layers.buffer.made 0 ≤ closed_count p.layers + (p.layers.buffer.made + length rs)) live on.counted in
+    omega (arith, one, ap (λ l. sum_by run_count l) on.runs, sum_by-append run_count (own_runs p.layers) on.more)
+
+-- what is followed by a view that is not spent is not spent
+was_live : (v w : Parts) (rs : List Record) → IsFalse w.spent → ViewFollows v w rs → IsFalse v.spent
+was_live v w rs still on = elim (either v.spent) [
+  | inl spent ↦ absurd (cc (still, ap (λ (y : Parts). y.spent) (on.spent spent).same, spent))
+  | inr live ↦ live
+]
+
+room_on : (v w x : Parts) (rs ss : List Record) → ViewFollows v w rs → ViewFollows w x ss → v.layers.buffer.made + length (rs ++ ss) < v.layers.limit
+    → LeavesLog v.host x.host v.layers x.layers
+room_on v w x rs ss first second fits =
+    let one = first.room (omega (arith, fits, length-append rs ss)) in
+    elim (either w.spent) [
+      | inl spent ↦ subst (λ (y : Parts). LeavesLog v.host y.host v.layers y.layers) (sym (second.spent spent).same) one
+      | inr still ↦
+          let step = first.live (was_live v w rs still first) in
+          let two = second.room (omega (arith, fits, length-append rs ss, made_grows (pair_of v) (pair_of w) rs (ap not still) step, step.limit)) in
+          record { reads = reads_go_on one.reads two.reads; log = two.log ∙ one.log }
+    ]
+
 pub view_follows_itself : (v : Parts) → (IsFalse v.spent → AreFit v.layers) → ViewFollows v v []
 view_follows_itself v fit = record {
   same_host = refl;
   same_layers = refl;
   live = λ live. goes_on_by_nothing (pair_of v) (ap not live) (fit live).none_refused;
+  room = λ fits. record { reads = reads_nothing v.host; log = refl };
   spent = λ spent. record { same = refl; none = refl };
 }
 
@@ -90,6 +117,7 @@ view_follows_on v w x rs ss first second = record {
         (subst (λ (y : Parts). GoesOn (pair_of v) (pair_of y) rs) (sym stays.same) (first.live live))
     | inr still ↦ goes_on_on (pair_of v) (pair_of w) (pair_of x) rs ss (ap not still) (first.live live) (second.live still)
   ];
+  room = room_on v w x rs ss first second;
   spent = λ spent.
       let one = first.spent spent in
       let two = second.spent (ap (λ (y : Parts). y.spent) one.same ∙ spent) in

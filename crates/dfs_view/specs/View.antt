@@ -2,7 +2,7 @@
 use Rattle.std.specs.Prelude.{◌≡◌, ◌<◌, ◌≤◌, ◌+◌, ◌*◌, ℕ, Bool, not, IsTrue, IsFalse, cond, List, [], ◌∷◌, ◌++◌, length, take, Result, OnOk, OnErr}
 use Rattle.std.specs.Borrow.{GName}
 use Rattle.std.specs.List.{AllByRecursion, sum_by}
-use Rattle.dfs_host.specs.Host.{HostState, now, Told, bytes_of, Only}
+use Rattle.dfs_host.specs.Host.{HostState, now, Told, bytes_of, Only, OnlyReads}
 use Rattle.dfs_buffer.specs.Buffer.{nothing}
 use Rattle.dfs_log.specs.Logs.{LogStands}
 use Rattle.dfs_record.specs.declared.Record.{Record}
@@ -92,6 +92,11 @@ pub record Parts : Type 0 where
 abbrev pub pair_of : Parts → Pair
 pair_of parts = record { host = parts.host; layers = parts.layers; live = not parts.spent }
 
+-- Nothing is written, and the log is as before.
+pub record LeavesLog (host host_after : HostState) (old new : Layers) : Type 0 where
+  pub reads : OnlyReads host host_after
+  pub log : new.log ≡ old.log
+
 -- A spent view is followed by itself alone.
 pub record Stays (old new : Parts) (records : List Record) : Type 0 where
   pub same : new ≡ old
@@ -102,4 +107,6 @@ pub record ViewFollows (old new : Parts) (records : List Record) : Type 0 where
   pub same_host : new.host_name ≡ old.host_name
   pub same_layers : new.layers_name ≡ old.layers_name
   pub live : IsFalse old.spent → GoesOn (pair_of old) (pair_of new) records
+  -- as long as the open layer has room for the records
+  pub room : old.layers.buffer.made + length records < old.layers.limit → LeavesLog old.host new.host old.layers new.layers
   pub spent : IsTrue old.spent → Stays old new records

@@ -25,7 +25,7 @@ pub(crate) fn children(alloc: Global, layers: &Layers, dir: DirId) -> Result<Lis
     list_all(alloc, records)
 }
 
-/// Whether a directory has a child. The first one answers.
+/// Whether a directory has a child.
 pub(crate) fn has_child(alloc: Global, layers: &Layers, dir: DirId) -> Result<bool, NoMemory>
     ensures answer { (host : HostState) → Stand host layers.now → IfOk result (λ has. has ≡ has_child_in (layers_map host layers.now) dir) }
 {

@@ -1,13 +1,13 @@
 //! The layers of a job.
 
-ghost use Rattle.std.specs.Prelude.{◌≡◌, ◌<◌, ◌≤◌, ◌↔◌, ◌∷◌, [], ℕ, length, slice_get, is_ok, true, IsSomeAnd, IsFalse, IsErrOf, OnOk};
+ghost use Rattle.std.specs.Prelude.{◌≡◌, ◌<◌, ◌≤◌, ◌+◌, ◌↔◌, ◌∷◌, [], ℕ, length, slice_get, is_ok, true, IsSomeAnd, IsFalse, IsErrOf, OnOk};
 ghost use Rattle.dfs_host.specs.Fault.{HasFaultCause};
 ghost use Rattle.dfs_host.specs.Host.{Told};
 ghost use Rattle.dfs_record.specs.Namespace.{after_record};
 ghost use Rattle.dfs_record.specs.Record.{IsRecord};
 ghost use Rattle.dfs_view.specs.Layers.{AreFit, Stand, layers_map, runs_of};
 ghost use Rattle.dfs_view.specs.Lists.{flushed};
-ghost use Rattle.dfs_view.specs.View.{Closes, GoesOn, WorksOn};
+ghost use Rattle.dfs_view.specs.View.{Closes, GoesOn, LeavesLog, WorksOn};
 
 use dfs_buffer::Buffer;
 use dfs_change::Change;
@@ -64,6 +64,7 @@ pub(crate) fn add<H: Host>(
     ensures stand { Told (H.state host.old) (OnOk result (Stand (H.state host.new) layers.new)) }
     ensures map { Told (H.state host.old) (OnOk result (layers_map (H.state host.new) layers.new ≡ after_record (layers_map (H.state host.old) layers.old) rec)) }
     ensures goes_on { GoesOn (record { host = H.state host.old; layers = layers.old; live = true }) (record { host = H.state host.new; layers = layers.new; live = is_ok result }) (rec ∷ []) }
+    ensures room { layers.old.buffer.made + 1 < layers.old.limit → LeavesLog (H.state host.old) (H.state host.new) layers.old layers.new }
     ensures full { IsErrOf result Fault.LogFull ↔ (0 < layers.new.log.refused) }
     ensures cause { HasFaultCause (H.state host.old) (H.state host.new) result }
 {
@@ -78,7 +79,7 @@ pub(crate) fn add<H: Host>(
     close(alloc, host, layers)
 }
 
-/// Closes the open layer, where it has a record. `LogFull` exactly where the log refused a piece.
+/// Closes the open layer, where it has a record; the map stays. `LogFull` exactly where the log refused a piece.
 pub fn flush<H: Host>(alloc: Global, host: &mut H, layers: &mut Layers) -> Result<(), Fault>
     requires fit { AreFit layers.old }
     requires stand { Told (H.state host.old) (Stand (H.state host.old) layers.old) }
@@ -86,6 +87,8 @@ pub fn flush<H: Host>(alloc: Global, host: &mut H, layers: &mut Layers) -> Resul
     ensures fit { OnOk result (AreFit layers.new) }
     ensures stand { Told (H.state host.old) (OnOk result (Stand (H.state host.new) layers.new)) }
     ensures emptied { OnOk result (layers.new.buffer.made ≡ 0) }
+    ensures map { Told (H.state host.old) (OnOk result (layers_map (H.state host.new) layers.new ≡ layers_map (H.state host.old) layers.old)) }
+    ensures idle { layers.old.buffer.made ≡ 0 → LeavesLog (H.state host.old) (H.state host.new) layers.old layers.new }
     // No record comes in, and the open layer closes where it has one.
     ensures works { WorksOn (record { host = H.state host.old; layers = layers.old; live = true }) (record { host = H.state host.new; layers = layers.new; live = is_ok result }) 0 flushed }
     ensures full { IsErrOf result Fault.LogFull ↔ (0 < layers.new.log.refused) }

@@ -16,7 +16,7 @@ use dfs_record::{KeyRef, Value};
 use dfs_table::Run;
 use std::alloc::Global;
 
-/// The value of the last record with the key, and `None` exactly where no layer has one. The newest layer is asked first.
+/// The value of the last record with the key, and `None` exactly where no layer has one.
 pub(crate) fn find<H: Host>(
     alloc: Global,
     host: &mut H,
@@ -29,6 +29,7 @@ pub(crate) fn find<H: Host>(
     ensures memory { (fault : AnyFault) → IsErrOf result fault → fault ≡ Fault.NoMemory }
     ensures host { H.state host.new ≡ H.state host.old }
 {
+    // The newest layer that has the key counts, so it is asked first.
     match layers.buffer.find(key) {
         Some(value) => copied(alloc, value),
         None => find_below(alloc, host, layers, key),

@@ -71,6 +71,8 @@ impl<'a, 'b, H: Host> Space for View<'a, 'b, H> {
         (record { host_name = w.host.ghost_name; layers_name = w.layers.ghost_name; host = H.state w.host.now; layers = w.layers.now; spent = w.spent })
         records };
 
+    ghost AfterFault = { λ v. IsTrue v.spent };
+
     ghost told = { λ v m stands. stands.0 };
 
     ghost follows_itself = { λ v. view_follows_itself _ v.fit };

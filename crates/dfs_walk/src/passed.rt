@@ -52,6 +52,7 @@ impl Passed {
             Err(_) => Err(NoMemory),
         }
     }
+
     /// Whether the directory is one of them.
     pub fn contains(&self, dir: DirId) -> bool
         ensures { result ≡ list_any (is_same_dir dir) self.now }

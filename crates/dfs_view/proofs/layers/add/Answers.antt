@@ -1,4 +1,5 @@
-use Rattle.std.proofs.Common.{◌∙◌, ◌∷◌, [], ap, arith}
+use Rattle.std.proofs.Common.{◌∙◌, ◌∷◌, [], ap, refl, arith}
+use Rattle.dfs_host.proofs.Moments.{reads_nothing}
 use Rattle.dfs_buffer.specs.Buffer.{Buffered}
 use Rattle.dfs_view.specs.Lists.{add_all}
 use Rattle.dfs_view.proofs.Adding.{closed_map, closed_stand, closes_with_one, closing_works, on_ok, put_failed, put_goes_on, put_map}
@@ -34,3 +35,12 @@ returns-clause-goes_on g c =
     closing_works (g.H.Host.state c.args.host.now) (g.H.Host.state c.close.new.host) old c.close.new.layers b 1 (λ l. add_all old.limit l (c.args.rec ∷ [])) (omega (arith, ap (λ (x : Buffered). x.made) c.in-Ok.ensures.ok)) c.close.ensures.cause.later
     c.requires.stand
     (closes_with_one (g.H.Host.state c.args.host.now) old b c.args.rec c.requires.fit.room c.requires.fit.most (omega (arith, c.if-made-layers.false, c.made.ensures.made)) c.in-Ok.ensures.stands) c.close.result c.close.ensures.closes
+
+pub returns-in_default-clause-room : goal.returns-in_default-clause-room
+returns-in_default-clause-room g c = λ fits. record { reads = reads_nothing (g.H.Host.state c.args.host.now); log = refl }
+
+pub returns-then-made-layers-clause-room : goal.returns-then-made-layers-clause-room
+returns-then-made-layers-clause-room g c = λ fits. record { reads = reads_nothing (g.H.Host.state c.args.host.now); log = refl }
+
+pub returns-clause-room : goal.returns-clause-room
+returns-clause-room g c = λ fits. absurd (omega (arith, fits, c.if-made-layers.false, c.made.ensures.made, ap (λ (x : Buffered). x.made) c.in-Ok.ensures.ok))

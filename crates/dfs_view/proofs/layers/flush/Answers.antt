@@ -1,6 +1,7 @@
-use Rattle.std.proofs.Common.{arith}
+use Rattle.std.proofs.Common.{refl, arith}
+use Rattle.dfs_host.proofs.Moments.{reads_nothing}
 use Rattle.dfs_view.specs.Lists.{flushed}
-use Rattle.dfs_view.proofs.Adding.{closed_stand, closes_with_all, closing_works, none_to_close, on_ok}
+use Rattle.dfs_view.proofs.Adding.{closed_map, closed_stand, closes_with_all, closing_works, none_to_close, on_ok}
 use Rattle.dfs_view.proofs.layers.flush.Goals as goal
 
 pub returns-clause-works : goal.returns-clause-works
@@ -16,3 +17,14 @@ pub returns-clause-stand : goal.returns-clause-stand
 returns-clause-stand g c = λ tells.
     on_ok c.close.result c.close.ensures.closes.closed
     (λ closed. closed_stand (g.H.Host.state c.args.host.now) (g.H.Host.state c.close.new.host) c.args.layers.now c.close.new.layers c.close.ensures.closes tells (c.requires.stand tells) closed)
+
+pub returns-clause-map : goal.returns-clause-map
+returns-clause-map g c = λ tells.
+    on_ok c.close.result c.close.ensures.closes.closed
+    (λ closed. closed_map (g.H.Host.state c.args.host.now) (g.H.Host.state c.close.new.host) c.args.layers.now c.close.new.layers c.close.ensures.closes tells (c.requires.stand tells) closed)
+
+pub returns-then-made-eq0-clause-idle : goal.returns-then-made-eq0-clause-idle
+returns-then-made-eq0-clause-idle g c = λ none. record { reads = reads_nothing (g.H.Host.state c.args.host.now); log = refl }
+
+pub returns-clause-idle : goal.returns-clause-idle
+returns-clause-idle g c = λ none. absurd (omega (arith, none, c.if-made-eq0.false, c.made.ensures.made))

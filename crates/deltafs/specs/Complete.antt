@@ -19,10 +19,10 @@ JobsHaveRoom (Some Run) old script = HaveRoom (opened old) (lines_of script)
 JobsHaveRoom (Some (Gen creates)) old script = HaveRoom (opened old) (lines_of (generated creates))
 
 -- a script that the source has is shorter than the limit
-abbrev pub IsWithin : Option Command → ℕ → List ℕ → Type 0
-IsWithin None limit script = Unit {0}
-IsWithin (Some Run) limit script = length script < limit
-IsWithin (Some (Gen creates)) limit script = Unit {0}
+abbrev pub FitsLimit : Option Command → ℕ → List ℕ → Type 0
+FitsLimit None limit script = Unit {0}
+FitsLimit (Some Run) limit script = length script < limit
+FitsLimit (Some (Gen creates)) limit script = Unit {0}
 
 -- no count of faults rose
 pub record MeetsNoFault (host_old host_new : HostState) (source_old source_new : SourceState) : Type 0 where

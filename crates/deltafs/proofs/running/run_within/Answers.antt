@@ -8,7 +8,7 @@ use Rattle.deltafs.specs.declared.status.Status.TheVariants.{NoMemory}
 use Rattle.deltafs.specs.declared.words.Command.TheVariants.{Run, Gen}
 use Rattle.deltafs.specs.Causes.{DiskFaultsOf, IsOfLines, SayFaultsOf}
 use Rattle.deltafs.specs.Commands.{Keeps, Says}
-use Rattle.deltafs.specs.Complete.{IsCompleted, IsWithin, JobsHaveRoom}
+use Rattle.deltafs.specs.Complete.{IsCompleted, FitsLimit, JobsHaveRoom}
 use Rattle.deltafs.specs.Lines.{IsAfter}
 use Rattle.deltafs.specs.Says.{Untaken}
 use Rattle.deltafs.specs.Words.{command_of}
@@ -81,7 +81,7 @@ returns-in-Run-clause-complete g c old start room within none =
     let is : command_of c.args.words.now ≡ Some Run = sym c.command_of.ensures ∙ c.in-Some.is ∙ ap Some c.in-Run.is in
     let opened = c.open.ensures.cause.other (λ is. absurd (cc (is, c.in-Ok-open.is))) in
     let cause = c.run_script.ensures.cause in
-    completes_run old c.args.limits.script_bytes source.rest rest (said_of new) (value_on new) status (subst (λ k. JobsHaveRoom k old source.rest) is room) (subst (λ k. IsWithin k c.args.limits.script_bytes source.rest) is within)
+    completes_run old c.args.limits.script_bytes source.rest rest (said_of new) (value_on new) status (subst (λ k. JobsHaveRoom k old source.rest) is room) (subst (λ k. FitsLimit k c.args.limits.script_bytes source.rest) is within)
     (subst (λ k. Says k status old source.rest rest (said_of new) (value_on new)) is (returns-in-Run-clause-says g c old start)) (c.run_script.ensures.limit (start.source_tells is))
     (no_disk_fault status host.disk_faults new.disk_faults (subst (λ n. DiskFaultsOf status n new.disk_faults) opened cause.disk_faults) none.disk)
     (no_output_fault status host.say_faults new.say_faults (subst (λ n. SayFaultsOf status n new.say_faults) c.open.ensures.cause.say_faults cause.say_faults) none.output)

@@ -202,9 +202,3 @@ names_kept session (name ∷ names) sound selected =
         → AllByRecursion (λ l. IsKept session.kept l.job) (cons_option o (chosen_in (listed_in session) names))
     by None is has rest = rest
     by (Some l) is has rest = (selected_kept session name l sound is has, rest)
-
--- what is found of an entry's job is of the entry
-pub found_is : (kept : Kept) (l : Listed) (user : ℕ) (c : Change) → IsIndexed kept → EachBegun (λ d. d.listed.job ≡ l.job → d.listed ≡ l) kept → kept_at kept (record { change = l.job; job = user }) ≡ Some c → c.listed ≡ l
-found_is kept l user c indexed own is =
-    let u : Use = record { change = l.job; job = user } in
-    of_found (λ d. d.listed.job ≡ l.job → d.listed ≡ l) kept u c indexed own is (sym (found_job_is kept u c indexed is))

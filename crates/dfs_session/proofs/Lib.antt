@@ -12,6 +12,7 @@ mod Handed
 mod Working
 mod Changing
 mod Selecting
+mod Taking
 mod Places
 mod Beginning
 mod Publishing

@@ -8,5 +8,6 @@ pub mod Places
 pub mod Stands
 pub mod Worked
 pub mod Selected
+pub mod Taken
 pub mod Images
 pub mod Room

@@ -1,13 +1,16 @@
 //! What a job selects: the change sets of publications, in order.
 
-ghost use Rattle.std.specs.Prelude.{◌≡◌, ◌++◌, ◌∷◌, [], ℕ, IfOk, IfErr, IfNone, IfSome, OnOk, IsErrOf, IsTrue, None};
+ghost use Rattle.std.specs.Prelude.{◌≡◌, ◌++◌, ◌∷◌, [], ℕ, find, map, IfOk, IfErr, IfNone, IfSome, IsSome, IsSomeAnd, OnOk, IsErrOf, IsTrue, None};
+ghost use Rattle.std.specs.Option.{option_copied};
 ghost use Rattle.std.specs.List.{AllByRecursion, list_all};
 ghost use Rattle.dfs_host.specs.Fault.{HasFaultCause};
 ghost use Rattle.dfs_host.specs.Host.{Told, OnlyReads, bytes_of};
 ghost use Rattle.dfs_change.specs.Meant.{log_meaning};
+ghost use Rattle.dfs_registry.specs.Body.{has_job};
 ghost use Rattle.dfs_session.specs.Kept.{EachBegun, IsIndexed, IsInside, IsKept, IsOpened, IsOwn};
 ghost use Rattle.dfs_session.specs.Selected.{AreEntries, AreInside, AreNamedBy, IsSelection, chosen_in, is_listed};
 ghost use Rattle.dfs_session.specs.Sound.{IsEntry};
+ghost use Rattle.dfs_session.specs.Taken.{IsFor};
 
 use crate::keeping::Kept;
 use dfs_change::Change;
@@ -26,7 +29,8 @@ pub enum Selection {
     Damaged(SnapName),
 }
 
-/// Selects the publications of the names, in the order of the names. The log of each is read once, unless its change is kept.
+/// Selects the publications of the names, in the order of the names. The log of each is read once, also where its name stands several
+/// times, and not at all where its change is kept.
 pub fn select<H: Host>(
     alloc: Global,
     host: &mut H,
@@ -57,7 +61,7 @@ pub fn select<H: Host>(
         let Some(listed) = registry.find(names.get(index)) else {
             unreachable!();
         };
-        match take(alloc, host, kept, listed)? {
+        match take(alloc, host, kept, &changes, listed)? {
             Some(change) => add(&mut changes, change)?,
             None => return damaged(alloc, &listed.name),
         }
@@ -65,34 +69,53 @@ pub fn select<H: Host>(
     Ok(Selection::Changes(changes))
 }
 
-// The change set of an entry as it is kept, or else as `open` answers it.
+// The change set of an entry as it is kept or was selected before, or else as `open` answers it.
 fn take<H: Host>(
     alloc: Global,
     host: &mut H,
     kept: &Kept,
+    changes: &[Rc<Change>],
     listed: &Listed,
 ) -> Result<Option<Rc<Change>>, Fault>
     requires kept { IsIndexed kept.now }
-    requires own { EachBegun (λ c. c.listed.job ≡ listed.now.job → c.listed ≡ listed.now) kept.now }
-    requires inside { EachBegun IsInside kept.now }
-    requires opened { Told (H.state host.old) (EachBegun (IsOwn (H.state host.old)) kept.now) }
+    requires of_kept { EachBegun (IsFor (H.state host.old) listed.now) kept.now }
+    requires of_changes { AllByRecursion (IsFor (H.state host.old) listed.now) (map (λ c. c.value) changes.now) }
 
     ensures opened { Told (H.state host.old) (IfOk result (λ found. IfSome found (λ change. IsOpened (H.state host.old) listed.now change.value))) }
     ensures damaged { Told (H.state host.old) (IfOk result (λ found. IfNone found (log_meaning (bytes_of (H.state host.old) listed.now.job) listed.now ≡ None))) }
     ensures listed { IfOk result (λ found. IfSome found (λ change. change.value.listed ≡ listed.now)) }
     ensures inside { IfOk result (λ found. IfSome found (λ change. IsInside change.value)) }
     ensures reads { IsKept kept.now listed.now.job → (H.state host.new).reads ≡ (H.state host.old).reads }
+    ensures once { IsSome (find (λ c. has_job listed.now.job c.value.listed) changes.now) → (H.state host.new).reads ≡ (H.state host.old).reads }
     ensures only { OnlyReads (H.state host.old) (H.state host.new) }
     ensures cause { HasFaultCause (H.state host.old) (H.state host.new) result }
     ensures never_full { IsErrOf result Fault.LogFull → ⊥ }
     ensures never_changed { (file at : ℕ) → IsErrOf result (Fault.Changed file at) → ⊥ }
 {
-    match kept.find(listed.job) {
-        Some(change) => match change.clone() {
-            Ok(change) => Ok(Some(change)),
-            Err(_) => Err(Fault::NoMemory),
-        },
+    if let Some(change) = kept.find(listed.job) {
+        return shared(change);
+    }
+    match made_by(changes, listed.job) {
+        Some(change) => shared(change),
         None => open(alloc, host, listed),
+    }
+}
+
+// The change set among these that a job published.
+fn made_by(changes: &[Rc<Change>], job: u32) -> Option<&Rc<Change>>
+    ensures { option_copied result ≡ find (λ c. has_job job c.value.listed) changes.now }
+{
+    changes.iter().find(|change| change.listed.job == job)
+}
+
+// The same change set, for one more name that selects it.
+fn shared(change: &Rc<Change>) -> Result<Option<Rc<Change>>, Fault>
+    ensures same { IfOk result (λ found. IsSomeAnd found (λ other. other.value ≡ change.now.value)) }
+    ensures memory { IfErr result (λ fault. fault ≡ Fault.NoMemory) }
+{
+    match change.clone() {
+        Ok(change) => Ok(Some(change)),
+        Err(_) => Err(Fault::NoMemory),
     }
 }
 

@@ -5,7 +5,7 @@ use Rattle.std.proofs.lemmas.List.{map-append, take_all}
 use Rattle.dfs_host.specs.Disk.{Disk}
 use Rattle.dfs_host.specs.Host.{bytes_of}
 use Rattle.dfs_host.proofs.Causes.{none_by}
-use Rattle.dfs_host.proofs.Moments.{reads_go_on, same_bytes}
+use Rattle.dfs_host.proofs.Moments.{reads_go_on}
 use Rattle.dfs_table.proofs.Stays.{all_append}
 use Rattle.dfs_record.specs.declared.SnapName.{SnapName}
 use Rattle.dfs_change.specs.declared.change.Change.{Change}
@@ -14,9 +14,12 @@ use Rattle.dfs_registry.specs.declared.listed.Listed.{Listed}
 use Rattle.dfs_registry.specs.Body.{has_name}
 use Rattle.dfs_session.specs.declared.selection.Selection.TheVariants.{Damaged}
 use Rattle.dfs_session.specs.Selected.{AreChosen, IsSelection, chosen_in}
-use Rattle.dfs_session.specs.Kept.{IsInside, IsKept, IsOpened, IsOwn}
+use Rattle.dfs_session.specs.Kept.{IsInside, IsKept, IsOpened, begin_in}
 use Rattle.dfs_session.specs.Sound.{IsEntry}
-use Rattle.dfs_session.proofs.Begun.{each_mapped, listed_name, one_entry, opened_still, own_entry}
+use Rattle.dfs_session.specs.Taken.{IsFor}
+use Rattle.dfs_session.proofs.Begun.{listed_name, own_entry}
+use Rattle.dfs_session.proofs.Kept.{all_opened}
+use Rattle.dfs_session.proofs.Taking.{all_for}
 use Rattle.dfs_session.proofs.Selecting.{all_split, chosen_next, chosen_whole, first_damaged, if_none_at, if_ok_by, if_some_at, must_be_listed, next_chosen, no_fault, opened_before}
 use Rattle.dfs_session.proofs.Lists.{take_next}
 use Rattle.dfs_session.proofs.Working.{on_ok}
@@ -82,20 +85,26 @@ returns-in-None-clause-reads g c = λ kept.
     (subst (AllByRecursion (λ l. IsKept c.args.kept.now l.job)) (chosen_whole (bytes_of (g.H.Host.state c.args.host.now)) ls names index c.get.result.now listed c.get.ensures.value (sym c.in-Some.ensures)) kept) in
     on_ok c.damaged.result _ (c.in_ok-change.ensures.reads parts.1.0 ∙ c.loop-index.invariant.reads parts.0)
 
-pub take-requires-clause-own : goal.take-requires-clause-own
-take-requires-clause-own g c =
+pub take-requires-clause-of_kept : goal.take-requires-clause-of_kept
+take-requires-clause-of_kept g c = λ job.
     let ls = c.args.registry.now.entries in
-    let listed = c.in-Some.listed.now in
-    each_mapped (IsEntry ls) (λ d. d.listed.job ≡ listed.job → d.listed ≡ listed) c.args.kept.now
-    (λ d is same. one_entry ls listed d.listed c.count.ensures.listing (own_entry c.get.result.now ls listed (sym c.in-Some.ensures)) is same) c.requires.entries
-
-pub take-requires-clause-opened : goal.take-requires-clause-opened
-take-requires-clause-opened g c = λ tells.
     let start = g.H.Host.state c.args.host.now in
     let now = g.H.Host.state c.loop-index.host in
     let only = c.loop-index.invariant.only in
-    let told = sym only.tells ∙ tells in
-    each_mapped (IsOwn start) (IsOwn now) c.args.kept.now (λ d is. opened_still start now d (same_bytes only told d.listed.job) is) (c.requires.opened told)
+    let cs = begin_in c.args.kept.now job in
+    all_for now ls c.in-Some.listed.now cs c.count.ensures.listing (own_entry c.get.result.now ls c.in-Some.listed.now (sym c.in-Some.ensures)) (c.requires.entries job) (c.requires.inside job)
+    (λ tells. let told = sym only.tells ∙ tells in all_opened start now only told cs (c.requires.opened told job))
+
+pub take-requires-clause-of_changes : goal.take-requires-clause-of_changes
+take-requires-clause-of_changes g c =
+    let ls = c.args.registry.now.entries in
+    let start = g.H.Host.state c.args.host.now in
+    let now = g.H.Host.state c.loop-index.host in
+    let so_far = c.loop-index.invariant in
+    let cs : List Change = map (λ c. c.value) c.loop-index.changes.items in
+    subst (AllByRecursion (IsFor now c.in-Some.listed.now)) (sym (ap (map (λ c. c.value)) c.deref.ensures.value))
+    (all_for now ls c.in-Some.listed.now cs c.count.ensures.listing (own_entry c.get.result.now ls c.in-Some.listed.now (sym c.in-Some.ensures)) so_far.entries so_far.inside
+    (λ tells. let told = sym so_far.only.tells ∙ tells in all_opened start now so_far.only told cs (so_far.chosen told).opened))
 
 pub returns-clause-names : goal.returns-clause-names
 returns-clause-names g c = c.loop-index.invariant.names ∙ take_all c.loop-index.index c.args.names.now (omega (arith, c.len-index-end.ensures.length))

@@ -1,26 +1,40 @@
-use Rattle.std.proofs.Common.{◌∙◌, sym, ap, subst}
-use Rattle.dfs_change.specs.declared.change.Change.{Change}
-use Rattle.dfs_registry.specs.declared.listed.Listed.{Listed}
-use Rattle.dfs_session.specs.Kept.{IsInside, IsOpened, IsOwn}
-use Rattle.dfs_session.proofs.Begun.{found_is, of_found}
+use Rattle.std.proofs.Common.{◌≡◌, sym}
+use Rattle.dfs_session.specs.Kept.{IsInside, IsOpened}
+use Rattle.dfs_session.proofs.Taking.{found_taken, kept_taken, of_shared}
 use Rattle.dfs_session.proofs.selection.take.Goals as goal
 
-pub returns-in-Ok-clause-opened : goal.returns-in-Ok-clause-opened
-returns-in-Ok-clause-opened g c = λ tells.
-    let kept = c.args.kept.now in
-    let l = c.args.listed.now in
+pub returns-in-Some-clause-opened : goal.returns-in-Some-clause-opened
+returns-in-Some-clause-opened g c = λ tells.
     let host = g.H.Host.state c.args.host.now in
-    let change = c.in-Some.change.now.value in
+    let l = c.args.listed.now in
     let at = c.in-Some.ensures.found in
-    let own : IsOwn host change = of_found (IsOwn host) kept (record { change = l.job; job = at.0 }) change c.requires.kept (c.requires.opened tells) at.1 in
-    subst (IsOpened host l) (sym c.in-Ok.ensures.cases) (subst (λ (m : Listed). IsOpened host m change) (found_is kept l at.0 change c.requires.kept c.requires.own at.1) own)
+    of_shared (IsOpened host l) (λ r. r.value) c.shared.result c.in-Some.change.now.value c.shared.ensures.same ((kept_taken host c.args.kept.now l at.0 c.in-Some.change.now.value c.requires.kept c.requires.of_kept at.1).opened tells)
 
-pub returns-in-Ok-clause-listed : goal.returns-in-Ok-clause-listed
-returns-in-Ok-clause-listed g c =
+pub returns-in-Some-clause-listed : goal.returns-in-Some-clause-listed
+returns-in-Some-clause-listed g c =
+    let l = c.args.listed.now in
     let at = c.in-Some.ensures.found in
-    ap (λ (d : Change). d.listed) c.in-Ok.ensures.cases ∙ found_is c.args.kept.now c.args.listed.now at.0 c.in-Some.change.now.value c.requires.kept c.requires.own at.1
+    of_shared (λ d. d.listed ≡ l) (λ r. r.value) c.shared.result c.in-Some.change.now.value c.shared.ensures.same (kept_taken (g.H.Host.state c.args.host.now) c.args.kept.now l at.0 c.in-Some.change.now.value c.requires.kept c.requires.of_kept at.1).listed
 
-pub returns-in-Ok-clause-inside : goal.returns-in-Ok-clause-inside
-returns-in-Ok-clause-inside g c =
+pub returns-in-Some-clause-inside : goal.returns-in-Some-clause-inside
+returns-in-Some-clause-inside g c =
     let at = c.in-Some.ensures.found in
-    subst IsInside (sym c.in-Ok.ensures.cases) (of_found IsInside c.args.kept.now (record { change = c.args.listed.now.job; job = at.0 }) c.in-Some.change.now.value c.requires.kept c.requires.inside at.1)
+    of_shared IsInside (λ r. r.value) c.shared.result c.in-Some.change.now.value c.shared.ensures.same (kept_taken (g.H.Host.state c.args.host.now) c.args.kept.now c.args.listed.now at.0 c.in-Some.change.now.value c.requires.kept c.requires.of_kept at.1).inside
+
+pub returns-in-Some-made_by-clause-opened : goal.returns-in-Some-made_by-clause-opened
+returns-in-Some-made_by-clause-opened g c = λ tells.
+    let host = g.H.Host.state c.args.host.now in
+    let l = c.args.listed.now in
+    let change = c.in-Some-made_by.change.now in
+    of_shared (IsOpened host l) (λ r. r.value) c.shared-in-Some-made_by.result change.value c.shared-in-Some-made_by.ensures.same ((found_taken host l (λ r. r.value) c.args.changes.now change c.requires.of_changes (sym c.in-Some-made_by.ensures)).opened tells)
+
+pub returns-in-Some-made_by-clause-listed : goal.returns-in-Some-made_by-clause-listed
+returns-in-Some-made_by-clause-listed g c =
+    let l = c.args.listed.now in
+    let change = c.in-Some-made_by.change.now in
+    of_shared (λ d. d.listed ≡ l) (λ r. r.value) c.shared-in-Some-made_by.result change.value c.shared-in-Some-made_by.ensures.same (found_taken (g.H.Host.state c.args.host.now) l (λ r. r.value) c.args.changes.now change c.requires.of_changes (sym c.in-Some-made_by.ensures)).listed
+
+pub returns-in-Some-made_by-clause-inside : goal.returns-in-Some-made_by-clause-inside
+returns-in-Some-made_by-clause-inside g c =
+    let change = c.in-Some-made_by.change.now in
+    of_shared IsInside (λ r. r.value) c.shared-in-Some-made_by.result change.value c.shared-in-Some-made_by.ensures.same (found_taken (g.H.Host.state c.args.host.now) c.args.listed.now (λ r. r.value) c.args.changes.now change c.requires.of_changes (sym c.in-Some-made_by.ensures)).inside

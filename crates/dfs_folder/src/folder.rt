@@ -68,7 +68,7 @@ fn read_full(file: &File, at: u64, out: &mut [u8]) -> io::Result<usize>
 
 // The folder and its files. Some of them are open, and the folder itself is from the first call on that looks into it.
 //
-// Each error of the system is counted where it comes, and no call that met one is Ok.
+// Each error of the system is counted where it comes, and no call is Ok that counted one.
 #[derive(Drop)]
 pub struct Folder {
     runtime: HostRuntime,

@@ -1,9 +1,10 @@
 //! A folder with numbered files, over the system's calls.
 ghost use Rattle.std.specs.Prelude.{◌≤◌, ◌<◌, ◌+◌, ◌^◌, length, IfOk};
 
+use crate::answer::answered;
 use crate::names::Paths;
 use crate::opened::OpenFiles;
-use dfs_host::NoMemory;
+use dfs_host::{Failed, NoMemory};
 use std::alloc::Global;
 use std::fs::{File, OpenOptions};
 use std::io;
@@ -22,12 +23,22 @@ fn apart_from_streams(file: File) -> io::Result<File> {
     Ok(file)
 }
 
-fn open_file(runtime: &HostRuntime, path: &str) -> io::Result<File> {
-    let file = OpenOptions::new()
+fn open_folder(runtime: &HostRuntime, path: &str) -> io::Result<File> {
+    let folder = File::open(runtime, path)?;
+    apart_from_streams(folder)
+}
+
+// None where there is no such file.
+fn open_file(runtime: &HostRuntime, path: &str) -> io::Result<Option<File>> {
+    match OpenOptions::new()
         .read(true)
         .write(true)
-        .open(runtime, path)?;
-    apart_from_streams(file)
+        .open(runtime, path)
+    {
+        Ok(file) => Ok(Some(apart_from_streams(file)?)),
+        Err(error) if error.kind() == io::ErrorKind::NotFound => Ok(None),
+        Err(error) => Err(error),
+    }
 }
 
 fn make_file(runtime: &HostRuntime, path: &str) -> io::Result<File> {
@@ -56,6 +67,8 @@ fn read_full(file: &File, at: u64, out: &mut [u8]) -> io::Result<usize>
 }
 
 // The folder and its files. Some of them are open, and the folder itself is from the first call on that looks into it.
+//
+// Each error of the system is counted where it comes, and no call is Ok that counted one.
 #[derive(Drop)]
 pub struct Folder {
     runtime: HostRuntime,
@@ -66,6 +79,7 @@ pub struct Folder {
 
 impl Folder {
     ghost use Rattle.std.specs.Prelude.{◌≤◌, length, IfOk, IsTrue};
+    ghost use Rattle.dfs_host.specs.Counts.{HasCause};
     ghost use Rattle.dfs_folder.specs.Opened.{HasLatest};
 
     pub fn new(alloc: Global, runtime: HostRuntime, folder: &str) -> Result<Folder, NoMemory> {
@@ -80,10 +94,12 @@ impl Folder {
     }
 
     // The folder itself, open.
-    fn folder(&mut self) -> io::Result<&File> {
+    fn folder(&mut self, faults: &mut u64) -> Result<&File, Failed>
+        ensures cause { HasCause faults.old faults.new result }
+    {
         if self.folder.is_none() {
-            let folder = File::open(&self.runtime, self.paths.folder())?;
-            self.folder = Some(apart_from_streams(folder)?);
+            let folder = open_folder(&self.runtime, self.paths.folder());
+            self.folder = Some(answered(folder, faults)?);
         }
         let Some(folder) = &self.folder else {
             unreachable!();
@@ -91,66 +107,92 @@ impl Folder {
         Ok(folder)
     }
 
-    // Whether the file was ever made; it is the one used last then. A folder that is missing is an error.
-    fn find(&mut self, number: u32) -> io::Result<bool>
-        ensures { IfOk result (λ found. IsTrue found → HasLatest self.new.files) }
+    // Whether the file was ever made; it is the one used last then. A folder that is missing is a fault.
+    fn find(&mut self, number: u32, faults: &mut u64) -> Result<bool, Failed>
+        ensures found { IfOk result (λ found. IsTrue found → HasLatest self.new.files) }
+        ensures cause { HasCause faults.old faults.new result }
     {
         if self.files.find(number) {
             return Ok(true);
         }
-        self.folder()?;
+        self.folder(faults)?;
         self.paths.turn_to(number);
-        match open_file(&self.runtime, self.paths.path()) {
-            Ok(file) => {
+        match answered(open_file(&self.runtime, self.paths.path()), faults)? {
+            Some(file) => {
                 self.files.keep(number, file);
                 Ok(true)
             }
-            Err(error) if error.kind() == io::ErrorKind::NotFound => Ok(false),
-            Err(error) => Err(error),
+            None => Ok(false),
         }
     }
 
     // The file, which is made where it never was. The folder is synced then.
-    fn find_or_make(&mut self, number: u32) -> io::Result<&File> {
-        let found = self.find(number)?;
+    fn find_or_make(&mut self, number: u32, faults: &mut u64) -> Result<&File, Failed>
+        ensures cause { HasCause faults.old faults.new result }
+    {
+        let found = self.find(number, faults)?;
         if !found {
             self.paths.turn_to(number);
-            let file = make_file(&self.runtime, self.paths.path())?;
-            self.folder()?.sync_all()?;
+            let file = answered(make_file(&self.runtime, self.paths.path()), faults)?;
+            answered(self.folder(faults)?.sync_all(), faults)?;
             self.files.keep(number, file);
         }
         Ok(self.files.latest())
     }
 
-    pub fn len(&mut self, number: u32) -> io::Result<u64> {
-        if !self.find(number)? {
-            return Ok(0);
-        }
-        Ok(self.files.latest().metadata()?.len())
-    }
-
-    pub fn read(&mut self, number: u32, at: u64, out: &mut [u8]) -> io::Result<usize>
-        ensures bound { IfOk result (λ count. count ≤ length out.old) }
+    pub fn len(&mut self, number: u32, faults: &mut u64) -> Result<u64, Failed>
+        ensures cause { HasCause faults.old faults.new result }
     {
-        if at > LAST_PLACE || !self.find(number)? {
+        if !self.find(number, faults)? {
             return Ok(0);
         }
-        read_full(self.files.latest(), at, out)
+        let metadata = answered(self.files.latest().metadata(), faults)?;
+        Ok(metadata.len())
     }
 
-    pub fn write(&mut self, number: u32, at: u64, bytes: &[u8]) -> io::Result<()> {
-        self.find_or_make(number)?.write_all_at(bytes, at)
+    pub fn read(
+        &mut self,
+        number: u32,
+        at: u64,
+        out: &mut [u8],
+        faults: &mut u64,
+    ) -> Result<usize, Failed>
+        ensures bound { IfOk result (λ count. count ≤ length out.old) }
+        ensures cause { HasCause faults.old faults.new result }
+    {
+        if at > LAST_PLACE || !self.find(number, faults)? {
+            return Ok(0);
+        }
+        answered(read_full(self.files.latest(), at, out), faults)
     }
 
-    pub fn cut(&mut self, number: u32, len: u64) -> io::Result<()> {
-        self.find_or_make(number)?.set_len(len)
+    pub fn write(
+        &mut self,
+        number: u32,
+        at: u64,
+        bytes: &[u8],
+        faults: &mut u64,
+    ) -> Result<(), Failed>
+        ensures cause { HasCause faults.old faults.new result }
+    {
+        let file = self.find_or_make(number, faults)?;
+        answered(file.write_all_at(bytes, at), faults)
+    }
+
+    pub fn cut(&mut self, number: u32, len: u64, faults: &mut u64) -> Result<(), Failed>
+        ensures cause { HasCause faults.old faults.new result }
+    {
+        let file = self.find_or_make(number, faults)?;
+        answered(file.set_len(len), faults)
     }
 
     // A file that was never made has nothing to settle.
-    pub fn sync(&mut self, number: u32) -> io::Result<()> {
-        if !self.find(number)? {
+    pub fn sync(&mut self, number: u32, faults: &mut u64) -> Result<(), Failed>
+        ensures cause { HasCause faults.old faults.new result }
+    {
+        if !self.find(number, faults)? {
             return Ok(());
         }
-        self.files.latest().sync_all()
+        answered(self.files.latest().sync_all(), faults)
     }
 }

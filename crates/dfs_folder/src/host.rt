@@ -69,24 +69,24 @@ impl<W: Write + Drop> Host for FolderHost<W> {
     ghost state = { state_of };
 
     fn len(&mut self, file: u32) -> Result<u64, Failed> {
-        answered(self.folder.len(file), &mut self.disk_faults)
+        self.folder.len(file, &mut self.disk_faults)
     }
 
     fn read_at(&mut self, file: u32, at: u64, out: &mut [u8]) -> Result<usize, Failed> {
         count_up(&mut self.reads);
-        answered(self.folder.read(file, at, out), &mut self.disk_faults)
+        self.folder.read(file, at, out, &mut self.disk_faults)
     }
 
     fn write_at(&mut self, file: u32, at: u64, bytes: &[u8]) -> Result<(), Failed> {
-        answered(self.folder.write(file, at, bytes), &mut self.disk_faults)
+        self.folder.write(file, at, bytes, &mut self.disk_faults)
     }
 
     fn cut(&mut self, file: u32, len: u64) -> Result<(), Failed> {
-        answered(self.folder.cut(file, len), &mut self.disk_faults)
+        self.folder.cut(file, len, &mut self.disk_faults)
     }
 
     fn sync(&mut self, file: u32) -> Result<(), Failed> {
-        answered(self.folder.sync(file), &mut self.disk_faults)
+        self.folder.sync(file, &mut self.disk_faults)
     }
 
     fn say(&mut self, bytes: &[u8]) -> Result<(), Failed> {

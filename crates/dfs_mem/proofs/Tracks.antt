@@ -1,6 +1,5 @@
 -- The state of one file, followed through the deeds.
-use Rattle.std.proofs.Common.{◌≡◌, inl, inr, Option, Some, ℕ, ◌+◌, ◌<◌, ◌≤◌, Bool, true, false, cond, eqb, leb, List, [], ◌∷◌, ◌++◌, ◌||◌, length, get_or, drop, refl, sym, ◌∙◌, ap, add-one}
-use Rattle.std.proofs.Math.Bool.{or_assoc}
+use Rattle.std.proofs.Common.{◌≡◌, inl, inr, Option, Some, ℕ, ◌+◌, ◌<◌, ◌≤◌, Bool, true, false, cond, eqb, leb, List, [], ◌∷◌, ◌++◌, length, get_or, drop, refl, sym, ◌∙◌, ap, add-one}
 use Rattle.std.proofs.lemmas.Bool.{le-leb, lt-leb}
 use Rattle.std.proofs.lemmas.Bool.Decides.{eqb_tells}
 use Rattle.std.proofs.lemmas.List.{drop_more}
@@ -8,7 +7,7 @@ use Rattle.std.specs.Option.{option_map_or}
 use Rattle.std.specs.HashMap.{HashMap, get}
 use Rattle.std.specs.declared.hash.FoldHasher.{FoldHasher}
 use Rattle.std.specs.declared.hash.BuildHasherDefault.{BuildHasherDefault}
-use Rattle.dfs_host.specs.Disk.{FileState, Disk, is_within, settled_file, written, cut_to, synced}
+use Rattle.dfs_host.specs.Disk.{FileState, Disk, settled_file, written, cut_to, synced}
 use Rattle.dfs_mem.specs.declared.deed.Deed.{Deed}
 use Rattle.dfs_mem.specs.declared.deed.Deed.TheVariants.{Write, Cut, Sync, Say}
 use Rattle.dfs_mem.specs.declared.deed.Kept.{Kept}
@@ -16,26 +15,10 @@ use Rattle.dfs_mem.specs.Deeds.{step, disk_after, deeds_until, put, tried}
 use Rattle.dfs_mem.specs.Images.{values_of}
 use Rattle.dfs_mem.specs.declared.track.Track.{Track}
 use Rattle.dfs_mem.proofs.Given.{picked}
-use Rattle.dfs_mem.specs.Track.{covers, file_of, track_at, file_step, file_after, said_step, said_after}
+use Rattle.dfs_mem.specs.Track.{file_of, track_at, file_step, file_after, said_step, said_after}
 
 pub same_file : (a b : FileState) → a.bytes ≡ b.bytes → a.settled ≡ b.settled → ((place : ℕ) → a.touched place ≡ b.touched place) → a.least ≡ b.least → a.greatest ≡ b.greatest → a ≡ b
 same_file a b bytes settled touched least greatest = λ i. record { bytes = bytes i; settled = settled i; touched = λ place. touched place i; least = least i; greatest = greatest i }
-
-or_none : (b : Bool) → (b || false) ≡ b
-or_none true = refl
-or_none false = refl
-
--- one range more
-pub covers_push : (ranges : List (ℕ × ℕ)) (at count place : ℕ) → covers (ranges ++ (at, count) ∷ []) place ≡ (covers ranges place || is_within at count place)
-covers_push [] at count place = or_none (is_within at count place)
-covers_push (range ∷ ranges) at count place =
-    ap (λ b. is_within range.0 range.1 place || b) (covers_push ranges at count place)
-    ∙ sym (or_assoc (is_within range.0 range.1 place) (covers ranges place) (is_within at count place))
-
--- the range at place i, and the rest
-pub covers_drop : (ranges : List (ℕ × ℕ)) (i place : ℕ) (d : ℕ × ℕ) → i < length ranges
-    → covers (drop i ranges) place ≡ (is_within (get_or ranges i d).0 (get_or ranges i d).1 place || covers (drop (i + 1) ranges) place)
-covers_drop ranges i place d below = ap (λ (l : List (ℕ × ℕ)). covers l place) (drop_more ranges i d below)
 
 pub values_more : (f : ℕ → ℕ) (n : ℕ) → values_of f (n + 1) ≡ values_of f n ++ f n ∷ []
 values_more f n = ap (λ k. values_of f k) (add-one n)

@@ -1,5 +1,5 @@
 -- The state of one file as a Track has it, and what deeds do to it.
-use Rattle.std.specs.Prelude.{ℕ, Bool, false, ◌||◌, nat_eq, List, [], ◌∷◌, ◌++◌, take, if◌then◌else◌, ◌==◌}
+use Rattle.std.specs.Prelude.{◌≡◌, ℕ, Bool, false, ◌||◌, nat_eq, slice_index_or, List, [], ◌∷◌, ◌++◌, take, if◌then◌else◌, ◌==◌}
 use Rattle.std.specs.Option.{option_map_or}
 use Rattle.std.specs.HashMap.{HashMap, get}
 use Rattle.std.specs.declared.hash.FoldHasher.{FoldHasher}
@@ -11,16 +11,19 @@ use Rattle.dfs_mem.specs.declared.deed.Kept.{Kept}
 use Rattle.dfs_mem.specs.declared.track.Track.{Track}
 use Rattle.dfs_mem.specs.Deeds.{tried}
 
--- the place is in one of these ranges, each a place and a length
-abbrev pub covers : List (ℕ × ℕ) → ℕ → Bool
-covers [] place = false
-covers (range ∷ ranges) place = is_within range.0 range.1 place || covers ranges place
+-- whether the place is marked
+abbrev pub marks : List Bool → ℕ → Bool
+marks touched place = slice_index_or touched place false
+
+-- so many more places from one on
+abbrev pub IsMarked : ℕ → ℕ → List Bool → List Bool → Type 0
+IsMarked at count old new = (place : ℕ) → marks new place ≡ (marks old place || is_within at count place)
 
 abbrev pub file_of : Track → FileState
 file_of track = record {
   bytes = track.bytes.items;
   settled = track.settled.items;
-  touched = λ place. covers track.touched.items place;
+  touched = λ place. marks track.touched.items place;
   least = track.least;
   greatest = track.greatest;
 }

@@ -1,19 +1,19 @@
-ghost use Rattle.std.specs.Prelude.{◌≡◌, ◌≢◌, ℕ, IfOk, OnOk, IfNone, IfSome, slice_index};
-ghost use Rattle.dfs_host.specs.Disk.{FileState, is_within, overwritten};
+ghost use Rattle.std.specs.Prelude.{◌≡◌, ◌≢◌, ◌≤◌, ◌+◌, ◌^◌, ℕ, IfOk, OnOk, IfNone, IfSome, slice_index};
+ghost use Rattle.dfs_host.specs.Disk.{FileState, overwritten};
 ghost use Rattle.dfs_mem.specs.Deeds.{deeds_until};
-ghost use Rattle.dfs_mem.specs.Track.{covers, file_step, said_step, said_after};
+ghost use Rattle.dfs_mem.specs.Track.{IsMarked, file_step, marks, said_step, said_after};
 
 use crate::choice::{Choice, Fill, Length};
 use crate::deed::{Deed, Kept, Patch};
 use crate::files::overwrite;
 use std::alloc::{AllocError, Global};
 
-// The state of one file, and the ranges that were written since its last sync, each a place and a length.
+// The state of one file, and a mark at each place that was written since its last sync.
 #[derive(Drop)]
 pub struct Track {
     bytes: Vec<u8>,
     settled: Vec<u8>,
-    touched: Vec<(u64, u64)>,
+    touched: Vec<bool>,
     least: u64,
     greatest: u64,
 }
@@ -29,21 +29,28 @@ fn patch_bytes(bytes: &mut Vec<u8>, at: usize, new: &[u8]) -> Result<(), AllocEr
     Ok(())
 }
 
-fn is_in(range: (u64, u64), place: u64) -> bool
-    ensures { result ≡ is_within range.0 range.1 place }
+// Marks so many places from one on.
+fn mark(touched: &mut Vec<bool>, at: usize, count: usize) -> Result<(), AllocError>
+    requires { at + count ≤ 2 ^ 63 }
+    ensures { OnOk result (IsMarked at count touched.old.items touched.new.items) }
 {
-    range.0 <= place && place - range.0 < range.1
+    let end = at + count;
+    while touched.len() < end {
+        touched.push(false)?;
+    }
+    for place in at..end {
+        touched[place] = true;
+    }
+    Ok(())
 }
 
-fn is_covered(ranges: &[(u64, u64)], place: u64) -> bool
-    ensures { result ≡ covers ranges.now place }
+fn is_marked(touched: &[bool], place: u64) -> bool
+    ensures { result ≡ marks touched.now place }
 {
-    for range in ranges {
-        if is_in(*range, place) {
-            return true;
-        }
+    match touched.get(place as usize) {
+        Some(is) => *is,
+        None => false,
     }
-    false
 }
 
 // The byte at a place, or 0 behind the end.
@@ -122,7 +129,7 @@ impl Track {
     {
         let bytes: &[u8] = &patch.bytes;
         let count = bytes.len() as u64;
-        self.touched.push((patch.at, count))?;
+        mark(&mut self.touched, patch.at as usize, bytes.len())?;
         self.greatest = self.greatest.max(patch.at + count);
         if done {
             patch_bytes(&mut self.bytes, patch.at as usize, bytes)?;
@@ -189,7 +196,7 @@ impl Track {
     fn left(&self, fill: Fill, place: u64) -> u8
         ensures { result ≡ left_at fill (file_of self.now) place }
     {
-        if !is_covered(&self.touched, place) {
+        if !is_marked(&self.touched, place) {
             return byte_at(&self.settled, place);
         }
         match fill {

@@ -1,8 +1,8 @@
 use Rattle.std.proofs.Common.{ℕ, List, length, ◌||◌, cond, refl, sym, ◌∙◌, ap, arith}
 use Rattle.dfs_host.specs.Disk.{overwritten, is_within, written}
 use Rattle.dfs_mem.specs.Deeds.{tried}
-use Rattle.dfs_mem.specs.Track.{covers, file_of}
-use Rattle.dfs_mem.proofs.Tracks.{same_file, covers_push}
+use Rattle.dfs_mem.specs.Track.{marks, file_of}
+use Rattle.dfs_mem.proofs.Tracks.{same_file}
 use Rattle.dfs_mem.proofs.track.Track.write.Goals as goal
 
 pub returns-in_ok-patch_bytes : goal.returns-in_ok-patch_bytes
@@ -15,9 +15,7 @@ returns-in_ok-patch_bytes c =
     ∙ ap (λ (l : List ℕ). overwritten patch.at l track.bytes.items) c.deref-bytes.ensures.value
     ∙ sym (ap (λ b. cond b (overwritten patch.at patch.bytes.items track.bytes.items) track.bytes.items) c.if-done.true))
     refl
-    (λ place. ap (λ (l : List (ℕ × ℕ)). covers l place) c.in_ok-push.ensures.items
-    ∙ covers_push track.touched.items patch.at (length c.deref-bytes.result.now) place
-    ∙ ap (λ n. covers track.touched.items place || is_within patch.at n place) count)
+    (λ place. c.in_ok-mark.ensures place ∙ ap (λ n. marks track.touched.items place || is_within patch.at n place) count)
     refl
     (omega (arith, c.max-self.ensures, count))
 
@@ -29,8 +27,6 @@ returns-else-done c =
     same_file _ (tried c.args.done (written patch.at patch.bytes.items (file_of track)) (file_of track))
     (sym (ap (λ b. cond b (overwritten patch.at patch.bytes.items track.bytes.items) track.bytes.items) c.if-done.false))
     refl
-    (λ place. ap (λ (l : List (ℕ × ℕ)). covers l place) c.in_ok-push.ensures.items
-    ∙ covers_push track.touched.items patch.at (length c.deref-bytes.result.now) place
-    ∙ ap (λ n. covers track.touched.items place || is_within patch.at n place) count)
+    (λ place. c.in_ok-mark.ensures place ∙ ap (λ n. marks track.touched.items place || is_within patch.at n place) count)
     refl
     (omega (arith, c.max-self.ensures, count))

@@ -1,14 +1,12 @@
 -- A walk in steps: the directories passed so far, and the walk from there.
-use Rattle.std.proofs.Common.{◌≡◌, ◌<◌, ◌+◌, ◌-◌, ℕ, zero, suc, List, [], ◌∷◌, ◌++◌, length, drop, Result, Ok, Err, refl, sym, ap, ◌∙◌, arith}
-use Rattle.std.specs.Prelude.{Option, Some, None, slice_get}
+use Rattle.std.proofs.Common.{◌≡◌, ◌<◌, ◌+◌, ◌-◌, ℕ, zero, suc, List, [], ◌∷◌, ◌++◌, length, drop, Ok, Err, refl, sym, ap, ◌∙◌, arith}
+use Rattle.std.specs.Prelude.{Some, slice_get}
 use Rattle.dfs_record.specs.declared.DirId.{DirId}
-use Rattle.dfs_record.specs.declared.Key.{Key}
 use Rattle.dfs_record.specs.declared.Name.{Name}
 use Rattle.dfs_record.specs.declared.Record.{Record}
 use Rattle.dfs_record.specs.KeyMap.{get}
 use Rattle.dfs_record.specs.Namespace.{Namespace}
 use Rattle.dfs_space.specs.Space.{SpaceState, HasRead}
-use Rattle.dfs_walk.specs.declared.Walked.{Walked}
 use Rattle.dfs_walk.specs.declared.WalkFault.{WalkFault}
 use Rattle.dfs_walk.specs.declared.WalkFault.TheVariants.{NoEnt, NotDir, Fault}
 use Rattle.dfs_walk.specs.Walk.{Walk, no_entry, not_dir, at, passing_by, through, walk_from, walk}

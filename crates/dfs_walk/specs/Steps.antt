@@ -1,5 +1,5 @@
 -- What the steps of a walk say of the whole walk.
-use Rattle.std.specs.Prelude.{◌≡◌, ◌-◌, List, [], ◌∷◌, length, slice_get, Option, Some, Result, Ok, Err}
+use Rattle.std.specs.Prelude.{◌≡◌, ◌-◌, List, length, slice_get, Option, Some, Result, Ok, Err}
 use Rattle.dfs_record.specs.declared.DirId.{DirId}
 use Rattle.dfs_record.specs.declared.Key.{Key}
 use Rattle.dfs_record.specs.declared.Name.{Name}

@@ -17,9 +17,9 @@ use std::alloc::Global;
 
 const ROOT_MODE: u16 = 0o755;
 
-/// Walks from the root along the path, with one look-up for each of its names.
+/// Walks from the root along the path.
 ///
-/// A fault comes by the causes of the space's calls alone.
+/// A fault of the space ends it, and so does want of memory.
 pub fn walk<S: Space>(alloc: Global, space: &mut S, path: &Path) -> Result<Walked, WalkFault>
     requires { IsReady (S.state space.old) }
 

@@ -100,7 +100,7 @@ impl Buffer {
         self.made
     }
 
-    /// Takes all records out. Room that was taken is given back.
+    /// Takes all records out.
     pub fn clear(&mut self)
         ensures { self.new ≡ nothing }
     {

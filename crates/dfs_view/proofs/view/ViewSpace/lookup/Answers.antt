@@ -1,14 +1,14 @@
-use Rattle.std.proofs.Common.{true, false, ◌∙◌, ap}
+use Rattle.std.proofs.Common.{◌∙◌, ap}
 use Rattle.dfs_record.specs.Delta.{last_value}
 use Rattle.dfs_view.specs.Layers.{layer_records}
 use Rattle.dfs_view.proofs.Adding.{found_entry, looks}
 use Rattle.dfs_view.proofs.view.ViewSpace.lookup.Goals as goal
 
 pub returns-in_err-found-clause-follows : goal.returns-in_err-found-clause-follows
-returns-in_err-found-clause-follows g c = looks _ (g.H.Host.state c.find.new.host) true c.requires.ready.live (c.args.self.now.fit c.requires.ready.live) c.find.ensures.host
+returns-in_err-found-clause-follows g c = looks _ (g.H.Host.state c.find.new.host) _ c.requires.ready.live (c.args.self.now.fit c.requires.ready.live) c.find.ensures.host
 
 pub returns-clause-follows : goal.returns-clause-follows
-returns-clause-follows g c = looks _ (g.H.Host.state c.find.new.host) false c.requires.ready.live (c.args.self.now.fit c.requires.ready.live) c.find.ensures.host
+returns-clause-follows g c = looks _ (g.H.Host.state c.find.new.host) _ c.requires.ready.live (c.args.self.now.fit c.requires.ready.live) c.find.ensures.host
 
 pub returns-clause-found : goal.returns-clause-found
 returns-clause-found g c = λ m stands.

@@ -50,8 +50,8 @@ same_sums (y ∷ ys) (z ∷ zs) first second same =
     let z_there = has (y ∷ ys) z (omega (arith, same (one z), here z zs)) in
     let heads : y ≡ z = both y z (first 0 z_there.0 y z (omega arith) refl z_there.1) (second 0 y_there.0 z y (omega arith) refl y_there.1) in
     let tails : ys ≡ zs =
-        same_sums ys zs (λ i j k l le a b. first (suc i) (suc j) k l (omega (arith, le)) a b) (λ i j k l le a b. second (suc i) (suc j) k l (omega (arith, le)) a b)
-        (λ f. omega (arith, same f, sum_by-cons f y ys, sum_by-cons f z zs, ap f heads)) in
+    same_sums ys zs (λ i j k l le a b. first (suc i) (suc j) k l (omega (arith, le)) a b) (λ i j k l le a b. second (suc i) (suc j) k l (omega (arith, le)) a b)
+    (λ f. omega (arith, same f, sum_by-cons f y ys, sum_by-cons f z zs, ap f heads)) in
     λ i. heads i ∷ tails i
 
 pub sorted_once : (xs ys zs : List Key) → AreSorted ys → AreSorted zs → IsPermutation xs ys → IsPermutation xs zs → ys ≡ zs

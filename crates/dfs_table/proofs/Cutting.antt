@@ -47,12 +47,12 @@ push_cuts old new r rest fit begins = by (nat_lt most_bytes (length (block_bytes
         ∙ append_assoc (map (λ (f : Fence). f.count) (fences_of old)) (adds.fence.count ∷ []) behind
         ∙ ap (λ n. map (λ (f : Fence). f.count) (fences_of old) ++ n ∷ behind) adds.count
         ∙ ap (λ b. map (λ (f : Fence). f.count) (fences_of old) ++ map length (if b then cut_behind rest (old.records ++ r ∷ []) else old.records ∷ cut_behind rest (r ∷ [])))
-            (sym (fits_not old.records r adds.fence.first adds.first (ltb-true _ _ e)))
+        (sym (fits_not old.records r adds.fence.first adds.first (ltb-true _ _ e)))
     by false e =
         let le : Fits old r = omega (arith, ltb-false _ _ e) in
         ap (λ (w : WriterState). lengths w rest) (fit le)
         ∙ ap (λ b. map (λ (f : Fence). f.count) (fences_of old) ++ map length (if b then cut_behind rest (old.records ++ r ∷ []) else old.records ∷ cut_behind rest (r ∷ [])))
-            (sym (fits_so old.records r le))
+        (sym (fits_so old.records r le))
 
 -- ---- how many blocks there are
 
@@ -175,9 +175,9 @@ end_cut w (Ok run) all sound same none last = by w.records refl
     by [] e =
         let written = sound.none e in
         let empty : [] ≡ map length (cut all) =
-            ap (λ (ts : List Table). map (λ (f : Fence). f.count) (all_fences ts ++ []) ++ map length (cut_behind [] [])) (sym written.0)
-            ∙ ap (λ (fs : List Fence). map (λ (f : Fence). f.count) (all_fences w.closed ++ fs) ++ map length (cut_behind [] [])) (sym written.1)
-            ∙ ap (λ rs. map (λ (f : Fence). f.count) (fences_of w) ++ map length (cut_behind [] rs)) (sym e) ∙ same in
+        ap (λ (ts : List Table). map (λ (f : Fence). f.count) (all_fences ts ++ []) ++ map length (cut_behind [] [])) (sym written.0)
+        ∙ ap (λ (fs : List Fence). map (λ (f : Fence). f.count) (all_fences w.closed ++ fs) ++ map length (cut_behind [] [])) (sym written.1)
+        ∙ ap (λ rs. map (λ (f : Fence). f.count) (fences_of w) ++ map length (cut_behind [] rs)) (sym e) ∙ same in
         subst (IsCut all) (sym (none e)) (record { blocks = empty; full = tt; needed = omega (arith, ap length empty, length-map (cut all) length) })
     by (b ∷ bs) e = last_cut w run.tables all sound same (last (omega (arith, ap length e))) (omega (arith, ap length e))
 

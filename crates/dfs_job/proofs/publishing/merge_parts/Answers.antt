@@ -96,13 +96,13 @@ returns-in_err-part-clause-passes g c = λ ds tells held is.
           inr
           (subst (λ n. 131072 < tables_below old.keys n ds n) c.requires.parts
           (omega (
-          arith,
-          many,
-          h.needed ds tells held,
-          ap (λ ks. tables_needed (merged_part (boundary ks before.parts part) (boundary ks before.parts (part + 1)) ds)) h.keys,
-          ap (λ n. tables_needed (merged_part (boundary old.keys n part) (boundary old.keys n (part + 1)) ds)) h.parts,
-          one_below old.keys old.parts ds part,
-          below_more old.keys old.parts ds (part + 1) old.parts (omega (arith, c.loop-part-test.true, c.requires.parts)),
+            arith,
+            many,
+            h.needed ds tells held,
+            ap (λ ks. tables_needed (merged_part (boundary ks before.parts part) (boundary ks before.parts (part + 1)) ds)) h.keys,
+            ap (λ n. tables_needed (merged_part (boundary old.keys n part) (boundary old.keys n (part + 1)) ds)) h.parts,
+            one_below old.keys old.parts ds part,
+            below_more old.keys old.parts ds (part + 1) old.parts (omega (arith, c.loop-part-test.true, c.requires.parts)),
           )))
     ]
 

@@ -88,10 +88,10 @@ returns-clause-too_many g c = λ ls tells stored passes.
     let same = sorted_once (first_keys rs) passes.keys c.in-Ok.compaction.keys passes.sorted c.in-Ok.ensures.sorted passes.firsts c.in-Ok.ensures.keys in
     absurd
     (omega (
-    arith,
-    passes.many,
-    ap (λ keys. tables_below keys c.args.parts (map delta ls) c.args.parts) same,
-    c.in_ok-merge_parts.ensures.needed (map delta ls) tells stands,
-    ap length c.take.ensures.tables,
-    c.take.ensures.few,
+      arith,
+      passes.many,
+      ap (λ keys. tables_below keys c.args.parts (map delta ls) c.args.parts) same,
+      c.in_ok-merge_parts.ensures.needed (map delta ls) tells stands,
+      ap length c.take.ensures.tables,
+      c.take.ensures.few,
     ))

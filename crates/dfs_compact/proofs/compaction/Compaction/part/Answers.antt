@@ -45,8 +45,8 @@ returns-clause-stands g c = λ ds tells stands.
     let file = c.args.log.now.file in
     let start = stands_still {b = true} (subst (λ (s : CompactionState). Stands (bytes_of old) file s ds) (sym c.self.view_is) stands) in
     let after = stands_on old new file c.args.log.now.len tells c.in_ok-run.ensures.only c.in_ok-run.ensures.before _ ds c.args.part c.in_ok-run.run' c.in_ok-run.ensures.file start
-        (λ are. c.in_ok-run.ensures.stored ds tells (subst (λ (rs : List (Rc Run Global)). AreSources (bytes_of old) (map (λ r. r.value) rs) ds) (sym c.deref.ensures.value) are))
-        (λ are. c.in_ok-run.ensures.cut ds tells (subst (λ (rs : List (Rc Run Global)). AreSources (bytes_of old) (map (λ r. r.value) rs) ds) (sym c.deref.ensures.value) are)) in
+    (λ are. c.in_ok-run.ensures.stored ds tells (subst (λ (rs : List (Rc Run Global)). AreSources (bytes_of old) (map (λ r. r.value) rs) ds) (sym c.deref.ensures.value) are))
+    (λ are. c.in_ok-run.ensures.cut ds tells (subst (λ (rs : List (Rc Run Global)). AreSources (bytes_of old) (map (λ r. r.value) rs) ds) (sym c.deref.ensures.value) are)) in
     let same = c.self-2.view_is ∙ c.in-Ok.ensures.kept in
     subst (λ (s : CompactionState). Stands (bytes_of new) file s ds) (sym (ap (λ (s : CompactionState). record s { spent = false }) same)) (stands_still after)
 

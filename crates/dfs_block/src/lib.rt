@@ -17,6 +17,3 @@ pub use block::Block;
 pub use builder::BlockBuilder;
 pub use laws::{one_list, rises_by_last};
 pub use records::BlockRecords;
-
-#[cfg(test)]
-mod tests;

@@ -14,6 +14,3 @@ mod cursor;
 
 pub use buffer::Buffer;
 pub use cursor::BufferRecords;
-
-#[cfg(test)]
-mod tests;

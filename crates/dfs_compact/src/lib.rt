@@ -13,6 +13,3 @@ mod keys;
 mod sources;
 
 pub use compaction::{Compaction, Parted};
-
-#[cfg(test)]
-mod tests;

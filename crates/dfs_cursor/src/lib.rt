@@ -15,6 +15,3 @@ mod slices;
 pub use either::EitherRecords;
 pub use ranges::RangeRecords;
 pub use slices::SliceRecords;
-
-#[cfg(test)]
-mod tests;

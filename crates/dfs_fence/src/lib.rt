@@ -17,6 +17,3 @@ mod writing;
 pub use fence::Fence;
 pub use fences::Fences;
 pub use laws::{index_laws, one_covers};
-
-#[cfg(test)]
-mod tests;

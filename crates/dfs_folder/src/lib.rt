@@ -12,8 +12,6 @@ mod laws;
 mod names;
 mod opened;
 mod source;
-#[cfg(test)]
-mod tests;
 
 pub use host::FolderHost;
 pub use laws::own_names;

@@ -7,8 +7,6 @@
 mod line;
 mod source;
 mod summary;
-#[cfg(test)]
-mod tests;
 mod text;
 
 pub use source::GenSource;

@@ -14,6 +14,3 @@ mod writing;
 pub use laws::manifest_laws;
 pub use manifest::Manifest;
 pub use writing::write;
-
-#[cfg(test)]
-mod tests;

@@ -15,6 +15,3 @@ mod rank;
 mod tree;
 
 pub use merge::Merge;
-
-#[cfg(test)]
-mod tests;

@@ -54,6 +54,3 @@ pub enum OpReply {
     /// The job has made as many records as it may.
     Full,
 }
-
-#[cfg(test)]
-mod tests;

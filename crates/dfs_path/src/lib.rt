@@ -140,6 +140,3 @@ pub enum Op {
 pub fn printed_reads_back()
     ensures { PrintedReadsBack }
 {}
-
-#[cfg(test)]
-mod tests;

@@ -12,6 +12,3 @@ mod plan;
 
 pub use laws::one_part;
 pub use plan::Plan;
-
-#[cfg(test)]
-mod tests;

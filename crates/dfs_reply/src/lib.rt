@@ -127,6 +127,3 @@ pub enum Reply {
     /// The line was refused, and nothing is changed.
     Error(Word),
 }
-
-#[cfg(test)]
-mod tests;

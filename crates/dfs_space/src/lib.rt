@@ -18,6 +18,3 @@ pub use listing::Listing;
 pub use plain::PlainSpace;
 pub use space::Space;
 pub use span::{first_key, next_dir};
-
-#[cfg(test)]
-mod tests;

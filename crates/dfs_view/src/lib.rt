@@ -16,6 +16,3 @@ mod view;
 
 pub use layers::{Layers, flush};
 pub use view::View;
-
-#[cfg(test)]
-mod tests;

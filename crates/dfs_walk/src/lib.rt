@@ -60,6 +60,3 @@ impl From<Fault> for WalkFault {
         WalkFault::Fault(fault)
     }
 }
-
-#[cfg(test)]
-mod tests;

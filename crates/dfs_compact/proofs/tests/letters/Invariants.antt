@@ -1,6 +1,0 @@
-use Rattle.std.proofs.Common.{length}
-use Rattle.dfs_compact.specs.Cursors.{run_rest}
-use Rattle.dfs_compact.proofs.tests.letters.Given as goal
-
-abbrev pub decreases-loop-rec : goal.decreases-loop-rec
-decreases-loop-rec l = length (run_rest l.records)

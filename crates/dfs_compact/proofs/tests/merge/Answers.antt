@@ -1,4 +1,0 @@
-use Rattle.dfs_compact.proofs.tests.merge.Goals as goal
-
-pub merged_in-requires-clause-file : goal.merged_in-requires-clause-file
-merged_in-requires-clause-file g c = c.in_ok-compaction.ensures.inside c.two_sources.new.log.file

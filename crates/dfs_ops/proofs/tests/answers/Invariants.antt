@@ -1,5 +1,0 @@
-use Rattle.dfs_ops.specs.Op.{AreIds}
-use Rattle.dfs_ops.proofs.tests.answers.Given as goal
-
-abbrev pub invariant-loop-case : goal.invariant-loop-case
-invariant-loop-case g l = AreIds l.ids

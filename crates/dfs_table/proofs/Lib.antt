@@ -3,6 +3,7 @@ pub mod Closing
 pub mod Counting
 pub mod Cutting
 pub mod Few
+pub mod Firsts
 pub mod Finding
 pub mod Joining
 pub mod Lengths

@@ -1,8 +1,9 @@
 -- How the records of a run are cut into blocks, and its blocks into tables.
-use Rattle.std.specs.Prelude.{◌≡◌, ◌+◌, ◌-◌, ◌/◌, ℕ, nat_le, Bool, true, if◌then◌else◌, List, [], ◌∷◌, ◌++◌, length, map, take}
+use Rattle.std.specs.Prelude.{◌≡◌, ◌+◌, ◌-◌, ◌/◌, ℕ, nat_le, Bool, true, if◌then◌else◌, List, [], ◌∷◌, ◌++◌, length, map, filter_map, take}
 use Rattle.std.specs.List.{AllByRecursion}
+use Rattle.dfs_record.specs.declared.Key.{Key}
 use Rattle.dfs_record.specs.declared.Record.{Record}
-use Rattle.dfs_block.specs.Block.{block_bytes, most_bytes}
+use Rattle.dfs_block.specs.Block.{block_bytes, first_key, most_bytes}
 use Rattle.dfs_table.specs.declared.table.Table.{Table}
 use Rattle.dfs_table.specs.Tables.{all_fences}
 use Rattle.dfs_table.specs.Writer.{IsFull}
@@ -21,6 +22,10 @@ cut_behind (r ∷ rs) block = if fits block r then cut_behind rs (block ++ r ∷
 -- the blocks of a run of these records
 abbrev pub cut : List Record → List (List Record)
 cut rs = cut_behind rs []
+
+-- the first key of each of its blocks
+abbrev pub block_firsts : List Record → List Key
+block_firsts rs = filter_map first_key (cut rs)
 
 -- how many tables they need, of 4,096 blocks each
 abbrev pub tables_needed : List Record → ℕ

@@ -3,6 +3,7 @@ pub mod Seen
 pub mod Fair
 pub mod Apart
 pub mod Sealing
+pub mod Flushed
 pub mod Keeping
 pub mod Plans
 pub mod Merges

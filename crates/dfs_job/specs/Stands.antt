@@ -4,11 +4,11 @@ use Rattle.std.specs.List.{AllByRecursion, AllZip, sum_by}
 use Rattle.std.specs.List.Sorted.{IsPermutation}
 use Rattle.dfs_host.specs.Host.{HostState, Told, bytes_of}
 use Rattle.dfs_record.specs.declared.Key.{Key}
-use Rattle.dfs_record.specs.Delta.{Delta, delta}
+use Rattle.dfs_record.specs.Delta.{Delta, delta, records_of}
 use Rattle.dfs_path.specs.declared.Scope.{Scope}
 use Rattle.dfs_path.specs.declared.Scope.TheVariants.{Own, All}
 use Rattle.dfs_table.specs.Counts.{count_of}
-use Rattle.dfs_table.specs.Cut.{IsCut}
+use Rattle.dfs_table.specs.Cut.{IsCut, block_firsts}
 use Rattle.dfs_table.specs.Stored.{IsStored}
 use Rattle.dfs_table.specs.Tables.{all_fences}
 use Rattle.dfs_table.specs.Writer.{AreIn}
@@ -150,13 +150,17 @@ PassesWith None q j part = ⊥
 PassesWith (Some u) None j part = ⊥
 PassesWith (Some u) (Some p) j part = IsPastWith u.compaction (covered_changes p j) part
 
+-- the first keys of the blocks of its layers, once the open one is closed
+abbrev pub flushed_firsts : LiveJob → Job → List Key
+flushed_firsts live j = first_keys (own_runs live.layers) ++ block_firsts (records_of (delta j.layers.open_))
+
 -- The run of these change sets, which are merged in so many parts, would pass 131,072 tables. What cuts them is the first keys of the
 -- blocks of the runs that they are stored in. One run alone stands as it is.
-pub record Passes (runs : List Run) (parts : ℕ) (ds : List Delta) : Type 0 where
-  pub merged : length runs ≢ 1
+pub record Passes (firsts : List Key) (parts : ℕ) (ds : List Delta) : Type 0 where
+  pub merged : length ds ≢ 1
   pub keys : List Key
   pub sorted : AreSorted keys
-  pub firsts : IsPermutation (first_keys runs) keys
+  pub same : IsPermutation firsts keys
   pub many : 131072 < tables_below keys parts ds parts
 
 -- So many records, merged in so many parts, may need more than the 131,072 tables of a run, which have 536,870,912 blocks: a part has

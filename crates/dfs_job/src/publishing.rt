@@ -45,7 +45,7 @@ impl Job {
     ghost use Rattle.dfs_change.specs.Sealing.{entry_of};
     ghost use Rattle.dfs_view.specs.Layers.{own_runs};
     ghost use Rattle.dfs_job.specs.Job.{Job as PlainJob, after_flush, layer_changes, need, own_changes};
-    ghost use Rattle.dfs_job.specs.Stands.{JobIsSound, JobStands, Passes, own_count, publishes_too_many};
+    ghost use Rattle.dfs_job.specs.Stands.{JobIsSound, JobStands, Passes, flushed_firsts, own_count, publishes_too_many};
 
     /// Seals all layers of the job as one run in its log: the only one as it stands, several ones merged in as many parts as the
     /// settings say, none as a run without a table. What it selected is no part of that, and a plan under way is given up. The job is
@@ -63,8 +63,8 @@ impl Job {
         ensures basis { self.new.layers.basis.items ≡ self.old.layers.basis.items }
         // `LogFull` exactly where the log refused a piece or the merged run would pass 131,072 tables, but for want of memory and a disk
         // fault; what bounds the tables by counts, on every host, is `full`.
-        ensures passes { (j : PlainJob) → Told (H.state host.old) (JobStands (H.state host.old) self.old j → IsErrOf result Fault.LogFull → (0 < self.new.layers.log.refused) ⊎ Passes (own_runs self.new.layers) self.old.settings.parts (layer_changes (after_flush j))) }
-        ensures too_many { (j : PlainJob) → Told (H.state host.old) (JobStands (H.state host.old) self.old j → Passes (own_runs self.new.layers) self.old.settings.parts (layer_changes (after_flush j)) → OnOk result ⊥) }
+        ensures passes { (j : PlainJob) → Told (H.state host.old) (JobStands (H.state host.old) self.old j → IsErrOf result Fault.LogFull → (0 < self.new.layers.log.refused) ⊎ Passes (flushed_firsts self.old j) self.old.settings.parts (layer_changes (after_flush j))) }
+        ensures too_many { (j : PlainJob) → Told (H.state host.old) (JobStands (H.state host.old) self.old j → Passes (flushed_firsts self.old j) self.old.settings.parts (layer_changes (after_flush j)) → OnOk result ⊥) }
         ensures full { IsErrOf result Fault.LogFull → (0 < self.new.layers.log.refused) ⊎ IsTrue (publishes_too_many self.old) }
         ensures refuses { 0 < self.new.layers.log.refused → IsErrOf result Fault.LogFull }
         ensures short { (j : PlainJob) → Told (H.state host.old) (JobStands (H.state host.old) self.old j → IsErrOf result Fault.LogFull → j.settings.log_bytes < need j) }
@@ -102,9 +102,9 @@ fn seal<H: Host>(
     ensures settled { Told (H.state host.old) (OnOk result (IsSettled ((H.state host.new).disk.files layers.old.log.file))) }
     ensures same { (layers.new.basis.items ≡ layers.old.basis.items) × (layers.new.runs.items ≡ layers.old.runs.items) }
     ensures passes { (ls : List (List AnyRecord)) → Told (H.state host.old) (IsSealable (H.state host.old) layers.old.log.file (own_runs layers.old) ls
-        → IsErrOf result Fault.LogFull → (0 < layers.new.log.refused) ⊎ Passes (own_runs layers.old) parts (map delta ls)) }
+        → IsErrOf result Fault.LogFull → (0 < layers.new.log.refused) ⊎ Passes (first_keys (own_runs layers.old)) parts (map delta ls)) }
     ensures too_many { (ls : List (List AnyRecord)) → Told (H.state host.old) (IsSealable (H.state host.old) layers.old.log.file (own_runs layers.old) ls
-        → Passes (own_runs layers.old) parts (map delta ls) → OnOk result ⊥) }
+        → Passes (first_keys (own_runs layers.old)) parts (map delta ls) → OnOk result ⊥) }
     ensures full { IsErrOf result Fault.LogFull → (0 < layers.new.log.refused) ⊎ IsTrue (may_pass (closed_count layers.old) parts) }
     ensures overfull { Told (H.state host.old) (IsErrOf result Fault.LogFull → (0 < layers.new.log.refused) ⊎ (536870912 < closed_count layers.old + 4095 * parts)) }
     ensures refuses { 0 < layers.new.log.refused → IsErrOf result Fault.LogFull }
@@ -171,9 +171,9 @@ fn merge_runs<H: Host>(
     ensures log { Told (H.state host.old) (OnOk result (LogStands (H.state host.new) log.new)) }
     ensures live { OnOk result (IsFalse log.new.spent) }
     ensures passes { (ls : List (List AnyRecord)) → Told (H.state host.old) (AreStored (bytes_of (H.state host.old) log.old.file) (map (λ r. r.value) runs.now) ls
-        → IsErrOf result Fault.LogFull → (0 < log.new.refused) ⊎ Passes (map (λ r. r.value) runs.now) parts (map delta ls)) }
+        → IsErrOf result Fault.LogFull → (0 < log.new.refused) ⊎ Passes (first_keys (map (λ r. r.value) runs.now)) parts (map delta ls)) }
     ensures too_many { (ls : List (List AnyRecord)) → Told (H.state host.old) (AreStored (bytes_of (H.state host.old) log.old.file) (map (λ r. r.value) runs.now) ls
-        → Passes (map (λ r. r.value) runs.now) parts (map delta ls) → OnOk result ⊥) }
+        → Passes (first_keys (map (λ r. r.value) runs.now)) parts (map delta ls) → OnOk result ⊥) }
     ensures full { IsErrOf result Fault.LogFull → (0 < log.new.refused) ⊎ IsTrue (may_pass (sum_by run_count (map (λ r. r.value) runs.now)) parts) }
     ensures overfull { (ls : List (List AnyRecord)) → Told (H.state host.old) (AreStored (bytes_of (H.state host.old) log.old.file) (map (λ r. r.value) runs.now) ls
         → IsErrOf result Fault.LogFull → (0 < log.new.refused) ⊎ (536870912 < sum_by run_count (map (λ r. r.value) runs.now) + 4095 * parts)) }

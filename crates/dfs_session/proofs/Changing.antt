@@ -26,7 +26,7 @@ use Rattle.dfs_job.specs.declared.job.Job.{Job as LiveJob}
 use Rattle.dfs_job.specs.declared.answers.Planned.{Planned}
 use Rattle.dfs_job.specs.declared.answers.Planned.TheVariants.{Made, Busy, Full}
 use Rattle.dfs_job.specs.Job.{Job, after_flush, after_plan, layer_changes, need, plan_answer, planned_as}
-use Rattle.dfs_job.specs.Stands.{JobIsSound, JobStands, Passes, PassesWith, StandsForOne}
+use Rattle.dfs_job.specs.Stands.{JobIsSound, JobStands, Passes, PassesWith, StandsForOne, flushed_firsts}
 use Rattle.dfs_session.specs.declared.keeping.Kept.{Kept}
 use Rattle.dfs_session.specs.declared.session.Session.{Session as LiveSession}
 use Rattle.dfs_session.specs.Files.{value_on}
@@ -125,10 +125,26 @@ module _ (before after : HostState) (session : LiveSession) (word : JobWord) (li
   pub was_sound : JobIsSound before live
   was_sound = record { fit = was_live.fit; stands = λ tells. all_found (λ x. StandsForOne before x) test (jobs_of session) live (sound.jobs tells) found }
 
-  -- what the call on the job says of the tables of its run, the session says of the job
+  -- what the call on the job says of the tables of its run, the session says of the job, and the other way round
+  part_so : (s : Session) (f : Found before s word live) (part : ℕ) → PartPasses (live_in session word) (live_job s word) part ≡ PassesWith live.plan f.plain.plan f.plain part
+  part_so s f part = λ i. PartPasses (found i) (f.found i) part
+
   pub part_passed : (s : Session) (f : Found before s word live) (part : ℕ) {A : Type 0} → A ⊎ PassesWith live.plan f.plain.plan f.plain part → A ⊎ PartPasses (live_in session word) (live_job s word) part
   part_passed s f part (inl a) = inl a
-  part_passed s f part (inr many) = inr (subst (λ (o : Option LiveJob). PartPasses o (live_job s word) part) (sym found) (subst (λ (o : Option Job). PartPasses (Some live) o part) (sym f.found) many))
+  part_passed s f part (inr many) = inr (subst (λ (P : Type 0). P) (sym (part_so s f part)) many)
+
+  pub part_passes : (s : Session) (f : Found before s word live) (part : ℕ) → PartPasses (live_in session word) (live_job s word) part → PassesWith live.plan f.plain.plan f.plain part
+  part_passes s f part many = subst (λ (P : Type 0). P) (part_so s f part) many
+
+  publication_so : (s : Session) (f : Found before s word live) → PublicationPasses (live_in session word) (live_job s word) ≡ Passes (flushed_firsts live f.plain) live.settings.parts (layer_changes (after_flush f.plain))
+  publication_so s f = (λ i. PublicationPasses (found i) (f.found i)) ∙ ap (λ (t : Settings). Passes (flushed_firsts live f.plain) t.parts (layer_changes (after_flush f.plain))) f.is.settings
+
+  pub publication_passed : (s : Session) (f : Found before s word live) {A : Type 0} → A ⊎ Passes (flushed_firsts live f.plain) live.settings.parts (layer_changes (after_flush f.plain)) → A ⊎ PublicationPasses (live_in session word) (live_job s word)
+  publication_passed s f (inl a) = inl a
+  publication_passed s f (inr many) = inr (subst (λ (P : Type 0). P) (sym (publication_so s f)) many)
+
+  pub publication_passes : (s : Session) (f : Found before s word live) → PublicationPasses (live_in session word) (live_job s word) → Passes (flushed_firsts live f.plain) live.settings.parts (layer_changes (after_flush f.plain))
+  publication_passes s f many = subst (λ (P : Type 0). P) (publication_so s f) many
 
   -- what the call on the job says of a piece that was refused, the session says of the job
   pub past_of : (new : LiveJob) → new.settings ≡ live.settings → (0 < new.layers.log.refused → live.layers.log.limit < new.layers.log.len + new.layers.log.refused) → IsPast new
@@ -165,14 +181,6 @@ module _ (before after : HostState) (session : LiveSession) (word : JobWord) (li
       still_unrefused none =
           ap (λ (es : Live). list_any (λ e. nat_lt 0 e.1.layers.log.refused) es) set
           ∙ unrefused (set_value test (jobs_of session) new) (all_set (λ x. x.layers.log.refused ≡ 0) test (jobs_of session) new none (each_unrefused session.greatest (listed_in session) (jobs_of session) sound.memory.jobs))
-
-      pub publication_passed : (s : Session) (f : Found before s word live) {A : Type 0} → A ⊎ Passes (own_runs new.layers) live.settings.parts (layer_changes (after_flush f.plain)) → A ⊎ PublicationPasses (live_in changed word) (live_job s word)
-      publication_passed s f (inl a) = inl a
-      publication_passed s f (inr many) =
-          let now : live_in changed word ≡ Some new = ap (lookup test) set ∙ found_set test (jobs_of session) live new found in
-          inr
-          (subst (λ (o : Option LiveJob). PublicationPasses o (live_job s word)) (sym now)
-          (subst (λ (o : Option Job). PublicationPasses (Some new) o) (sym f.found) (subst (λ (t : Settings). Passes (own_runs new.layers) t.parts (layer_changes (after_flush f.plain))) (sym f.is.settings) many)))
 
       now_refused : 0 < new.layers.log.refused → has_refused changed ≡ true
       now_refused some = ap (λ (es : Live). list_any (λ e. nat_lt 0 e.1.layers.log.refused) es) set ∙ any_set test (jobs_of session) live new found (lt-ltb 0 new.layers.log.refused some)
@@ -244,7 +252,7 @@ module _ (before after : HostState) (session : LiveSession) (word : JobWord) (li
       -- a call on the job that met a fault
       pub fault_worked : {T : Type 0} (work : Work) (fault : Fault) → HasFaultCause {T = T} before after (Err fault) → (IsErrOf {T = T} (Err fault) LogFull → (0 < new.layers.log.refused) ⊎ IsTrue (work.many session)) → IsPast new → (0 < new.layers.log.refused → IsErrOf {T = T} (Err fault) LogFull)
           → ((s : Session) → IsTrue before.tells → Stands before session s → fault ≡ LogFull → IsShort (work.job s))
-          → ((s : Session) → IsTrue before.tells → Stands before session s → fault ≡ LogFull → (0 < new.layers.log.refused) ⊎ work.passes s session changed) → IsWorked work before after session changed (Err fault)
+          → ((s : Session) → IsTrue before.tells → Stands before session s → fault ≡ LogFull → (0 < new.layers.log.refused) ⊎ work.passes s session) → IsWorked work before after session changed (Err fault)
       fault_worked {T} work fault cause full past refused short passes = record {
         sound = tt;
         settings = tt;

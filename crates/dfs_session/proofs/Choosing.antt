@@ -108,7 +108,7 @@ module _ (host : HostState) (session : LiveSession) (s : Session) (w : JobWord) 
 
 pub after_reads : (before mid after : HostState) (session new : LiveSession) (does did : Work) (result : Result (Vec ℕ) Fault) → IsSound before session → OnlyReads before mid → NoFault before mid
     → ((s : Session) → IsTrue before.tells → Stands before session s → does.step s ≡ did.step s) → ((s : Session) → does.job s ≡ did.job s) → ((t : Settings) → does.settings t ≡ did.settings t) → IsWorked did mid after session new result
-    → (does.quiet session → OnOk result (after.reads ≡ before.reads)) → does.names ≡ did.names → does.many session ≡ did.many session → ((s : Session) → did.passes s session new → does.passes s session new) → IsWorked does before after session new result
+    → (does.quiet session → OnOk result (after.reads ≡ before.reads)) → does.names ≡ did.names → does.many session ≡ did.many session → ((s : Session) → did.passes s session → does.passes s session) → IsWorked does before after session new result
 after_reads before mid after session new does did result sound only none same job settings worked reads named many passes =
     let stands_mid : (s : Session) → IsTrue before.tells → Stands before session s → Stands mid session s = λ s tells stands. stands_read before mid session s only tells stands in
     record {

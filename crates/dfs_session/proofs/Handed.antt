@@ -5,12 +5,11 @@ use Rattle.dfs_host.specs.Host.{HostState}
 use Rattle.dfs_host.specs.declared.fault.Fault.{Fault}
 use Rattle.dfs_host.specs.declared.fault.Fault.TheVariants.{NoMemory, Disk, LogFull, Changed}
 use Rattle.dfs_host.proofs.Causes.{cause_of_last}
-use Rattle.dfs_script.specs.declared.Line.{Line}
-use Rattle.dfs_script.specs.declared.Line.TheVariants.{Nothing, Set, Snapshots, Begin, Space, Flush, Plan, Part, Stats, Publish, End}
-use Rattle.dfs_script.specs.declared.LineFault.{LineFault}
-use Rattle.dfs_session.specs.declared.session.Session.{Session as LiveSession}
-use Rattle.dfs_session.specs.Session.{Session}
-use Rattle.dfs_session.specs.Worked.{passes_by, passes_of}
+use Rattle.dfs_job.specs.declared.answers.JobPart.{JobPart}
+use Rattle.dfs_job.specs.declared.answers.JobPart.TheVariants.{Merged, Last, NoPlan, Range, Done}
+use Rattle.dfs_job.specs.Parted.{IsRefusedPart}
+use Rattle.dfs_session.specs.Session.{told_of_part}
+use Rattle.dfs_session.specs.Worked.{IsRefused}
 
 abbrev pub fault_or : {T : Type 0} → Result T Fault → Fault
 fault_or (Ok x) = NoMemory
@@ -37,21 +36,10 @@ pub none_unless : (n : ℕ) → (0 < n → ⊥) → n ≡ 0
 none_unless zero some = refl
 none_unless (suc n) some = absurd (some (omega arith))
 
--- ---- a session that is spent after the fault
-
-pub passes_still : (line : Result Line LineFault) (s : Session) (old new : LiveSession) → passes_by line s old new → passes_by line s old (record new { spent = true })
-passes_still (Err fault) s old new many = absurd many
-passes_still (Ok line) s old new many = by line many
-  where
-    by : (line : Line) → passes_of line s old new → passes_of line s old (record new { spent = true })
-    by Nothing many = absurd many
-    by (Set what value) many = absurd many
-    by Snapshots many = absurd many
-    by (Begin w names) many = absurd many
-    by (Space w op) many = absurd many
-    by (Flush w) many = absurd many
-    by (Plan w scope parts) many = absurd many
-    by (Part w part) many = many
-    by (Stats w) many = absurd many
-    by (Publish w name) many = many
-    by (End w) many = absurd many
+-- a part that was refused, and the reply that tells it
+pub part_refused : (answer : JobPart) → IsRefusedPart answer → IsRefused (told_of_part answer)
+part_refused Merged is = absurd is
+part_refused Last is = absurd is
+part_refused NoPlan is = tt
+part_refused Range is = tt
+part_refused Done is = tt

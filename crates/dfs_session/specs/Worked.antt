@@ -6,6 +6,8 @@ use Rattle.dfs_host.specs.Fault.{HasFaultCause}
 use Rattle.dfs_host.specs.Host.{HostState, Told, LeavesOnly, SaysNothing}
 use Rattle.dfs_host.specs.declared.fault.Fault.{Fault}
 use Rattle.dfs_host.specs.declared.fault.Fault.TheVariants.{LogFull}
+use Rattle.dfs_reply.specs.declared.Reply.{Reply}
+use Rattle.dfs_reply.specs.declared.Reply.TheVariants.{Nothing as NoReply, Ok as OkReply, Job as JobReply, Stat as StatReply, Listing as ListingReply, Snapshots as SnapshotsReply, Merged as MergedReply, Stats as StatsReply, Published as PublishedReply, Damaged as DamagedReply, Error}
 use Rattle.dfs_reply.specs.Text.{text}
 use Rattle.dfs_registry.specs.Reading.{Reading, listing, not_a_registry, damaged}
 use Rattle.dfs_registry.specs.declared.listed.Listed.{Listed}
@@ -26,9 +28,8 @@ use Rattle.dfs_script.specs.declared.Setting.{Setting}
 use Rattle.dfs_script.specs.Line.{meaning}
 use Rattle.dfs_job.specs.declared.settings.Settings.{Settings}
 use Rattle.dfs_job.specs.declared.job.Job.{Job as LiveJob}
-use Rattle.dfs_view.specs.Layers.{own_runs}
 use Rattle.dfs_job.specs.Job.{Job, after, after_flush, after_plan, does, layer_changes, need}
-use Rattle.dfs_job.specs.Stands.{Passes, PassesWith, merges_too_many, publishes_too_many}
+use Rattle.dfs_job.specs.Stands.{Passes, PassesWith, flushed_firsts, merges_too_many, publishes_too_many}
 use Rattle.dfs_session.specs.Selected.{is_selected}
 use Rattle.dfs_session.specs.Session.{Session, Step, after_command, after_meaning, begins, begins_over, flushes, live_job, merges, of_job, operates_for, plans, publishes_anew, publishes_for, sets, with_setting}
 use Rattle.dfs_session.specs.Kept.{begin_in}
@@ -62,6 +63,20 @@ pub record IsFullWhere {T : Type 0} (result : Result T Fault) (many : Bool) (new
   pub past : AllByRecursion (λ e. IsPast e.1) (jobs_of new)
   pub refused : IsTrue (has_refused new) → IsErrOf result LogFull
 
+-- the reply refuses the line
+abbrev pub IsRefused : Reply → Type 0
+IsRefused NoReply = ⊥
+IsRefused OkReply = ⊥
+IsRefused (JobReply job) = ⊥
+IsRefused (StatReply entry) = ⊥
+IsRefused (ListingReply entries) = ⊥
+IsRefused (SnapshotsReply snapshots) = ⊥
+IsRefused MergedReply = ⊥
+IsRefused (StatsReply runs records) = ⊥
+IsRefused (PublishedReply name count) = ⊥
+IsRefused (DamagedReply name) = Unit {0}
+IsRefused (Error w) = Unit {0}
+
 -- ---- what a line works
 
 -- What a line does, the job that it works, with what it makes of that job, what it leaves of the settings, the sessions of which it
@@ -74,11 +89,11 @@ pub record Work : Type 1 where
   pub quiet : LiveSession → Type 0
   pub names : Option (List SnapName)
   pub many : LiveSession → Bool
-  pub passes : Session → LiveSession → LiveSession → Type 0
+  pub passes : Session → LiveSession → Type 0
 
 -- a line that no log is written for and that leaves the settings
 abbrev pub plain : (Session → Step) → Work
-plain does = record { step = does; job = λ s. None; settings = λ t. t; quiet = λ session. ⊥; names = None; many = λ session. false; passes = λ s old new. ⊥ }
+plain does = record { step = does; job = λ s. None; settings = λ t. t; quiet = λ session. ⊥; names = None; many = λ session. false; passes = λ s old. ⊥ }
 
 -- each of the names stands in the begin of a live job
 abbrev pub AreSelected : List SnapName → LiveSession → Type 0
@@ -121,20 +136,20 @@ PartPasses (Some live) None part = ⊥
 PartPasses (Some live) (Some j) part = PassesWith live.plan j.plan j part
 
 abbrev pub merging : JobWord → ℕ → Work
-merging w part = record (plain (λ s. merges s w part)) { job = λ s. live_job s w; many = λ session. job_is merges_too_many (live_in session w); passes = λ s old new. PartPasses (live_in old w) (live_job s w) part }
+merging w part = record (plain (λ s. merges s w part)) { job = λ s. live_job s w; many = λ session. job_is merges_too_many (live_in session w); passes = λ s old. PartPasses (live_in old w) (live_job s w) part }
 
--- the run of the job's layers, which it has closed, would pass the most tables
+-- the run of the job's layers, the open one closed, would pass the most tables
 abbrev pub PublicationPasses : Option LiveJob → Option Job → Type 0
 PublicationPasses None o = ⊥
 PublicationPasses (Some live) None = ⊥
-PublicationPasses (Some live) (Some j) = Passes (own_runs live.layers) j.settings.parts (layer_changes (after_flush j))
+PublicationPasses (Some live) (Some j) = Passes (flushed_firsts live j) j.settings.parts (layer_changes (after_flush j))
 
 abbrev pub publishing : JobWord → SnapName → Work
-publishing w name = record (plain (λ s. publishes_for s w name)) { job = λ s. live_job s w; many = λ session. job_is publishes_too_many (live_in session w); passes = λ s old new. PublicationPasses (live_in new w) (live_job s w) }
+publishing w name = record (plain (λ s. publishes_for s w name)) { job = λ s. live_job s w; many = λ session. job_is publishes_too_many (live_in session w); passes = λ s old. PublicationPasses (live_in old w) (live_job s w) }
 
 -- the same under a new name
 abbrev pub publishing_anew : JobWord → SnapName → Work
-publishing_anew w name = record (plain (λ s. of_job s w (λ j. publishes_anew s w j name))) { job = λ s. live_job s w; many = λ session. job_is publishes_too_many (live_in session w); passes = λ s old new. PublicationPasses (live_in new w) (live_job s w) }
+publishing_anew w name = record (plain (λ s. of_job s w (λ j. publishes_anew s w j name))) { job = λ s. live_job s w; many = λ session. job_is publishes_too_many (live_in session w); passes = λ s old. PublicationPasses (live_in old w) (live_job s w) }
 
 -- the job that a command works
 abbrev pub job_of : Session → Line → Option Job
@@ -207,21 +222,21 @@ many_of (Publish w name) session = job_is publishes_too_many (live_in session w)
 many_of (End w) session = false
 
 -- whether the run that a command merges would pass the most tables
-abbrev pub passes_of : Line → Session → LiveSession → LiveSession → Type 0
-passes_of Nothing s old new = ⊥
-passes_of (Set what value) s old new = ⊥
-passes_of Snapshots s old new = ⊥
-passes_of (Begin w names) s old new = ⊥
-passes_of (Space w op) s old new = ⊥
-passes_of (Flush w) s old new = ⊥
-passes_of (Plan w scope parts) s old new = ⊥
-passes_of (Part w part) s old new = PartPasses (live_in old w) (live_job s w) part
-passes_of (Stats w) s old new = ⊥
-passes_of (Publish w name) s old new = PublicationPasses (live_in new w) (live_job s w)
-passes_of (End w) s old new = ⊥
+abbrev pub passes_of : Line → Session → LiveSession → Type 0
+passes_of Nothing s old = ⊥
+passes_of (Set what value) s old = ⊥
+passes_of Snapshots s old = ⊥
+passes_of (Begin w names) s old = ⊥
+passes_of (Space w op) s old = ⊥
+passes_of (Flush w) s old = ⊥
+passes_of (Plan w scope parts) s old = ⊥
+passes_of (Part w part) s old = PartPasses (live_in old w) (live_job s w) part
+passes_of (Stats w) s old = ⊥
+passes_of (Publish w name) s old = PublicationPasses (live_in old w) (live_job s w)
+passes_of (End w) s old = ⊥
 
 abbrev pub of_command : Line → Work
-of_command line = record { step = λ s. after_command s line; job = λ s. job_of s line; settings = λ t. settings_of t line; quiet = λ session. IsQuiet line session; names = names_of line; many = λ session. many_of line session; passes = λ s old new. passes_of line s old new }
+of_command line = record { step = λ s. after_command s line; job = λ s. job_of s line; settings = λ t. settings_of t line; quiet = λ session. IsQuiet line session; names = names_of line; many = λ session. many_of line session; passes = λ s old. passes_of line s old }
 
 -- the job that a line works, with what it makes of that job
 abbrev pub job_by : Session → Result Line LineFault → Option Job
@@ -245,12 +260,12 @@ abbrev pub many_by : Result Line LineFault → LiveSession → Bool
 many_by (Ok line) session = many_of line session
 many_by (Err fault) session = false
 
-abbrev pub passes_by : Result Line LineFault → Session → LiveSession → LiveSession → Type 0
-passes_by (Ok line) s old new = passes_of line s old new
-passes_by (Err fault) s old new = ⊥
+abbrev pub passes_by : Result Line LineFault → Session → LiveSession → Type 0
+passes_by (Ok line) s old = passes_of line s old
+passes_by (Err fault) s old = ⊥
 
 abbrev pub of_meaning : Result Line LineFault → Work
-of_meaning line = record { step = λ s. after_meaning s line; job = λ s. job_by s line; settings = λ t. settings_by t line; quiet = λ session. quiet_by line session; names = names_by line; many = λ session. many_by line session; passes = λ s old new. passes_by line s old new }
+of_meaning line = record { step = λ s. after_meaning s line; job = λ s. job_by s line; settings = λ t. settings_by t line; quiet = λ session. quiet_by line session; names = names_by line; many = λ session. many_by line session; passes = λ s old. passes_by line s old }
 
 abbrev pub of_line : List ℕ → Work
 of_line line = of_meaning (meaning line)
@@ -283,7 +298,7 @@ pub record IsWorked (work : Work) (before now : HostState) (old new : LiveSessio
   pub silent : SaysNothing before now
   pub cause : HasFaultCause before now result
   pub full : IsFullWhere result (work.many old) new
-  pub passes : (s : Session) → Told before (Stands before old s → IsErrOf result LogFull → IsTrue (has_refused new) ⊎ work.passes s old new)
+  pub passes : (s : Session) → Told before (Stands before old s → IsErrOf result LogFull → IsTrue (has_refused new) ⊎ work.passes s old)
   pub short : (s : Session) → Told before (Stands before old s → IsErrOf result LogFull → IsShort (work.job s))
   pub reads : work.quiet old → OnOk result (now.reads ≡ before.reads)
   pub names : OnOk result (AreNamed work.names old new)

@@ -77,13 +77,15 @@ fn snapshots(alloc: Global, registry: &Registry) -> Result<SnapList, Fault>
 }
 
 impl Session {
-    ghost use Rattle.std.specs.Prelude.{◌≡◌, IfSome, IsTrue};
+    ghost use Rattle.std.specs.Prelude.{◌≡◌, IfSome, IsTrue, OnOk};
+    ghost use Rattle.dfs_host.specs.Host.{Told};
     ghost use Rattle.dfs_path.specs.Op.{IsOp};
     ghost use Rattle.dfs_script.specs.Scopes.{is_parts};
     ghost use Rattle.dfs_script.specs.Settings.{is_in_range};
-    ghost use Rattle.dfs_session.specs.Session.{tells_snapshots, tells_stats, ends};
-    ghost use Rattle.dfs_session.specs.Sound.{IsSound, IsSoundInMemory};
-    ghost use Rattle.dfs_session.specs.Worked.{IsWorked, IsWorkedInMemory, flushing, merging, operating, plain, planning, setting};
+    ghost use Rattle.dfs_session.specs.Session.{Session as PlainSession, ends, live_job, merges, tells_snapshots, tells_stats};
+    ghost use Rattle.dfs_session.specs.Sound.{IsSound, IsSoundInMemory, live_in};
+    ghost use Rattle.dfs_session.specs.Stands.{Stands};
+    ghost use Rattle.dfs_session.specs.Worked.{IsRefused, IsWorked, PartPasses, IsWorkedInMemory, flushing, merging, operating, plain, planning, setting};
 
     /// Sets what jobs that begin later are given.
     pub(crate) fn set(&mut self, what: Setting, value: u64) -> Result<Vec<u8>, Fault>
@@ -161,7 +163,8 @@ impl Session {
         part: u64,
     ) -> Result<Vec<u8>, Fault>
         requires { IsSound (H.state host.old) self.old }
-        ensures { IsWorked (merging word.now part) (H.state host.old) (H.state host.new) self.old self.new result }
+        ensures worked { IsWorked (merging word.now part) (H.state host.old) (H.state host.new) self.old self.new result }
+        ensures too_many { (s : PlainSession) → Told (H.state host.old) (Stands (H.state host.old) self.old s → PartPasses (live_in self.old word.now) (live_job s word.now) part → OnOk result (IsRefused (merges s word.now part).reply)) }
     {
         let Some(job) = self.jobs.get_mut(word) else {
             return text_of(self.alloc, &Reply::Error(Word::NoJob));

@@ -65,10 +65,13 @@ fn list<H: Host>(host: &mut H, registry: &mut Registry, listed: Listed) -> Resul
 }
 
 impl Session {
-    ghost use Rattle.std.specs.Prelude.{◌≡◌, ◌<◌, false, length};
+    ghost use Rattle.std.specs.Prelude.{◌≡◌, ◌<◌, false, length, OnOk};
+    ghost use Rattle.dfs_host.specs.Host.{Told};
     ghost use Rattle.dfs_registry.specs.Body.{lists_name};
-    ghost use Rattle.dfs_session.specs.Sound.{IsSound, listed_in};
-    ghost use Rattle.dfs_session.specs.Worked.{IsWorked, publishing, publishing_anew};
+    ghost use Rattle.dfs_session.specs.Session.{Session as PlainSession, live_job, publishes_for};
+    ghost use Rattle.dfs_session.specs.Sound.{IsSound, listed_in, live_in};
+    ghost use Rattle.dfs_session.specs.Stands.{Stands};
+    ghost use Rattle.dfs_session.specs.Worked.{IsRefused, IsWorked, PublicationPasses, publishing, publishing_anew};
 
     /// Publishes the changes of a job, which ends.
     pub(crate) fn publish<H: Host>(
@@ -78,7 +81,8 @@ impl Session {
         name: SnapName,
     ) -> Result<Vec<u8>, Fault>
         requires { IsSound (H.state host.old) self.old }
-        ensures { IsWorked (publishing word.now name) (H.state host.old) (H.state host.new) self.old self.new result }
+        ensures worked { IsWorked (publishing word.now name) (H.state host.old) (H.state host.new) self.old self.new result }
+        ensures too_many { (s : PlainSession) → Told (H.state host.old) (Stands (H.state host.old) self.old s → PublicationPasses (live_in self.old word.now) (live_job s word.now) → OnOk result (IsRefused (publishes_for s word.now name).reply)) }
     {
         if !self.jobs.contains_key(word) {
             return text_of(self.alloc, &Reply::Error(Word::NoJob));
@@ -103,7 +107,8 @@ impl Session {
         requires anew { lists_name (listed_in self.old) name ≡ false }
         requires few { length (listed_in self.old) < 4096 }
 
-        ensures { IsWorked (publishing_anew word.now name) (H.state host.old) (H.state host.new) self.old self.new result }
+        ensures worked { IsWorked (publishing_anew word.now name) (H.state host.old) (H.state host.new) self.old self.new result }
+        ensures too_many { (s : PlainSession) → Told (H.state host.old) (Stands (H.state host.old) self.old s → PublicationPasses (live_in self.old word.now) (live_job s word.now) → OnOk result ⊥) }
     {
         let alloc = self.alloc;
         let Some(job) = self.jobs.get_mut(word) else {

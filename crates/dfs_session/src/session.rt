@@ -64,7 +64,7 @@ impl Session {
     ghost use Rattle.dfs_script.specs.Valid.{IsLine};
     ghost use Rattle.dfs_session.specs.Files.{value_on};
     ghost use Rattle.dfs_session.specs.Images.{Holds, HoldsEither, HoldsNow};
-    ghost use Rattle.dfs_session.specs.Session.{Session as PlainSession, Registry as Publications, opened_with, step as step_of};
+    ghost use Rattle.dfs_session.specs.Session.{Session as PlainSession, Registry as Publications, after_command, opened_with, step as step_of};
     ghost use Rattle.dfs_record.specs.declared.SnapName.{SnapName};
     ghost use Rattle.dfs_script.specs.Line.{meaning};
     ghost use Rattle.dfs_script.specs.declared.JobWord.{JobWord as AJobWord};
@@ -73,7 +73,7 @@ impl Session {
     ghost use Rattle.dfs_session.specs.Sound.{IsSound, jobs_of};
     ghost use Rattle.dfs_job.specs.Stands.{AreSettings};
     ghost use Rattle.dfs_session.specs.Stands.{Stands, LeavesValue};
-    ghost use Rattle.dfs_session.specs.Worked.{AreNamed, OpensAs, IsPast, IsShort, IsWorked, has_refused, job_by, many_by, names_by, of_command, of_line, passes_by, settings_by};
+    ghost use Rattle.dfs_session.specs.Worked.{AreNamed, OpensAs, IsPast, IsRefused, IsShort, IsWorked, has_refused, job_by, many_by, names_by, of_command, of_line, passes_by, passes_of, settings_by};
 
     /// Opens the registry of a host. Jobs that begin are given the settings.
     pub fn open<H: Host>(
@@ -133,10 +133,11 @@ impl Session {
         ensures durable { (s : PlainSession) → Told (H.state host.old) (Stands (H.state host.old) self.old s → OnOk result (HoldsNow (step_of s line.now).session.registry (H.state host.new))) }
         ensures silent { SaysNothing (H.state host.old) (H.state host.new) }
         ensures cause { HasFaultCause (H.state host.old) (H.state host.new) result }
-        // `LogFull` where the log of a job refused a piece in this line, and else only where the run that the line merges would pass
-        // 131,072 tables, or on a host that tells nothing where by counts it may need more; and only where the log of the line's job is
-        // too short for what that job selected and made, this line counted.
-        ensures passes { (s : PlainSession) → Told (H.state host.old) (Stands (H.state host.old) self.old s → IsErrOf result Fault.LogFull → IsTrue (has_refused self.new) ⊎ passes_by (meaning line.now) s self.old self.new) }
+        // `LogFull` exactly where the log of a job refused a piece in this line or the run that the line merges would pass 131,072 tables,
+        // but for want of memory, a disk fault and a line that is refused; on a host that tells nothing, only where by counts it may need
+        // more. And only where the log of the line's job is too short for what that job selected and made, this line counted.
+        ensures passes { (s : PlainSession) → Told (H.state host.old) (Stands (H.state host.old) self.old s → IsErrOf result Fault.LogFull → IsTrue (has_refused self.new) ⊎ passes_by (meaning line.now) s self.old) }
+        ensures too_many { (s : PlainSession) → Told (H.state host.old) (Stands (H.state host.old) self.old s → passes_by (meaning line.now) s self.old → OnOk result (IsRefused (step_of s line.now).reply)) }
         ensures full { IsErrOf result Fault.LogFull → IsTrue (has_refused self.new) ⊎ IsTrue (many_by (meaning line.now) self.old) }
         ensures refused { IsTrue (has_refused self.new) → IsErrOf result Fault.LogFull }
         ensures past { AllByRecursion (λ e. IsPast e.1) (jobs_of self.new) }
@@ -159,7 +160,8 @@ impl Session {
     // Works a line.
     fn work<H: Host>(&mut self, host: &mut H, line: &[u8]) -> Result<Vec<u8>, Fault>
         requires { IsSound (H.state host.old) self.old }
-        ensures { IsWorked (of_line line.now) (H.state host.old) (H.state host.new) self.old self.new result }
+        ensures worked { IsWorked (of_line line.now) (H.state host.old) (H.state host.new) self.old self.new result }
+        ensures too_many { (s : PlainSession) → Told (H.state host.old) (Stands (H.state host.old) self.old s → passes_by (meaning line.now) s self.old → OnOk result (IsRefused (step_of s line.now).reply)) }
     {
         match read_line(self.alloc, line) {
             Ok(line) => self.obey(host, line),
@@ -173,7 +175,8 @@ impl Session {
     fn obey<H: Host>(&mut self, host: &mut H, line: Line) -> Result<Vec<u8>, Fault>
         requires sound { IsSound (H.state host.old) self.old }
         requires line { IsLine line }
-        ensures { IsWorked (of_command line) (H.state host.old) (H.state host.new) self.old self.new result }
+        ensures worked { IsWorked (of_command line) (H.state host.old) (H.state host.new) self.old self.new result }
+        ensures too_many { (s : PlainSession) → Told (H.state host.old) (Stands (H.state host.old) self.old s → passes_of line s self.old → OnOk result (IsRefused (after_command s line).reply)) }
     {
         match line {
             Line::Nothing => text_of(self.alloc, &Reply::Nothing),

@@ -6,7 +6,9 @@ use Rattle.dfs_host.specs.Host.{HostState, now, Told, bytes_of, Only, OnlyReads}
 use Rattle.dfs_buffer.specs.Buffer.{nothing}
 use Rattle.dfs_log.specs.Logs.{LogStands}
 use Rattle.dfs_record.specs.declared.Record.{Record}
+use Rattle.dfs_record.specs.Delta.{records_of}
 use Rattle.dfs_table.specs.declared.run.Run.{Run}
+use Rattle.dfs_table.specs.Cut.{IsCut}
 use Rattle.dfs_table.specs.Stored.{IsStored}
 use Rattle.dfs_table.specs.Writer.{AreIn}
 use Rattle.dfs_view.specs.declared.layers.Layers.{Layers}
@@ -62,11 +64,23 @@ pub record IsClosed (host host_after : HostState) (old new : Layers) : Type 0 wh
   pub runs : own_runs new ≡ own_runs old ++ run ∷ []
   pub own : IsOwnRun old.log.file run
   pub count : run_count run ≤ old.buffer.made
+  pub cut : IsCut (records_of old.buffer.held) run.tables
   pub emptied : new.buffer ≡ nothing
   pub live : IsFalse new.log.spent
   pub none_refused : new.log.refused ≡ 0
   pub log : Told host (LogStands host_after new.log)
   pub stored : Told host (IsStored (bytes_of host_after old.log.file) run old.buffer.held)
+
+-- Behind the runs there is one more, which is cut as the records of the open layer say.
+pub record AddsRun (old new : Layers) : Type 0 where
+  pub run : Run
+  pub runs : own_runs new ≡ own_runs old ++ run ∷ []
+  pub cut : IsCut (records_of old.buffer.held) run.tables
+
+-- An open layer that has a record becomes a run.
+pub record AddsOpen (old new : Layers) : Type 0 where
+  pub none : old.buffer.made ≡ 0 → own_runs new ≡ own_runs old
+  pub one : 1 ≤ old.buffer.made → AddsRun old new
 
 -- What closing the open layer leaves, whatever the answer.
 pub record Closes {T E : Type 0} (host host_after : HostState) (old new : Layers) (result : Result T E) : Type 0 where

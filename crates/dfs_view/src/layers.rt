@@ -7,7 +7,7 @@ ghost use Rattle.dfs_record.specs.Namespace.{after_record};
 ghost use Rattle.dfs_record.specs.Record.{IsRecord};
 ghost use Rattle.dfs_view.specs.Layers.{AreFit, Stand, layers_map, runs_of};
 ghost use Rattle.dfs_view.specs.Lists.{flushed};
-ghost use Rattle.dfs_view.specs.View.{Closes, GoesOn, LeavesLog, WorksOn};
+ghost use Rattle.dfs_view.specs.View.{AddsOpen, Closes, GoesOn, LeavesLog, WorksOn};
 
 use dfs_buffer::Buffer;
 use dfs_change::Change;
@@ -87,6 +87,8 @@ pub fn flush<H: Host>(alloc: Global, host: &mut H, layers: &mut Layers) -> Resul
     ensures fit { OnOk result (AreFit layers.new) }
     ensures stand { Told (H.state host.old) (OnOk result (Stand (H.state host.new) layers.new)) }
     ensures emptied { OnOk result (layers.new.buffer.made ≡ 0) }
+    // The run of the open layer is cut as its records say.
+    ensures cut { OnOk result (AddsOpen layers.old layers.new) }
     ensures map { Told (H.state host.old) (OnOk result (layers_map (H.state host.new) layers.new ≡ layers_map (H.state host.old) layers.old)) }
     ensures idle { layers.old.buffer.made ≡ 0 → LeavesLog (H.state host.old) (H.state host.new) layers.old layers.new }
     // No record comes in, and the open layer closes where it has one.

@@ -10,6 +10,7 @@ use Rattle.dfs_compact.proofs.Sorted.{sorted_once}
 use Rattle.dfs_view.specs.Layers.{run_count}
 use Rattle.dfs_job.proofs.Parting.{merged_layers, passes_more, runs_are_sources}
 use Rattle.dfs_job.proofs.Plans.{counted_runs}
+use Rattle.dfs_job.proofs.Sealing.{stored_lengths}
 use Rattle.dfs_job.proofs.publishing.merge_runs.Goals as goal
 
 pub returns-in_err-merge_parts-clause-full : goal.returns-in_err-merge_parts-clause-full
@@ -76,7 +77,7 @@ returns-in_err-merge_parts-clause-passes g c = λ ls tells stored is.
     let stands = c.in-Ok.ensures.stands files file (map delta ls) (runs_are_sources files file rs ls c.requires.own stored) in
     elim (c.merge_parts.ensures.passes (map delta ls) tells stands (cc (is, c.in_err-merge_parts.was, p.1, p.2))) [
       | inl some ↦ inl some
-      | inr many ↦ inr (record { merged = λ one. c.requires.several (sym (length-map c.args.runs.now (λ r. r.value)) ∙ one); keys = c.in-Ok.compaction.keys; sorted = c.in-Ok.ensures.sorted; firsts = c.in-Ok.ensures.keys; many = many })
+      | inr many ↦ inr (record { merged = λ one. c.requires.several (omega (arith, length-map c.args.runs.now (λ r. r.value), stored_lengths (files file) rs ls stored, length-map ls delta, one)); keys = c.in-Ok.compaction.keys; sorted = c.in-Ok.ensures.sorted; same = c.in-Ok.ensures.keys; many = many })
     ]
 
 pub returns-clause-too_many : goal.returns-clause-too_many
@@ -85,7 +86,7 @@ returns-clause-too_many g c = λ ls tells stored passes.
     let files = bytes_of (g.H.Host.state c.args.host.now) in
     let file = c.args.log.now.file in
     let stands = c.in-Ok.ensures.stands files file (map delta ls) (runs_are_sources files file rs ls c.requires.own stored) in
-    let same = sorted_once (first_keys rs) passes.keys c.in-Ok.compaction.keys passes.sorted c.in-Ok.ensures.sorted passes.firsts c.in-Ok.ensures.keys in
+    let same = sorted_once (first_keys rs) passes.keys c.in-Ok.compaction.keys passes.sorted c.in-Ok.ensures.sorted passes.same c.in-Ok.ensures.keys in
     absurd
     (omega (
       arith,

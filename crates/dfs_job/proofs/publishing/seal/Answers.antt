@@ -9,8 +9,9 @@ use Rattle.std.specs.Prelude.{flat_map}
 use Rattle.dfs_change.specs.Identities.{AreFit}
 use Rattle.dfs_table.specs.Stored.{IsStored}
 use Rattle.dfs_view.specs.Layers.{AreStored, own_runs}
+use Rattle.dfs_compact.specs.Parts.{first_keys}
 use Rattle.dfs_job.specs.Stands.{Passes}
-use Rattle.dfs_job.proofs.Sealing.{joined_fit, only_count, only_stored, run_in}
+use Rattle.dfs_job.proofs.Sealing.{joined_fit, only_count, only_stored, run_in, stored_lengths}
 use Rattle.dfs_job.proofs.publishing.seal.Goals as goal
 
 pub finish-requires-clause-of_job : goal.finish-requires-clause-of_job
@@ -78,17 +79,26 @@ returns-in_err-run-clause-passes g c = λ ls tells are is.
     let stored = subst (λ xs. AreStored (bytes_of (g.H.Host.state c.args.host.now) layers.log.file) (map (λ r. r.value) xs) ls) (sym c.deref-2.ensures.value) are.stored in
     elim (c.merge_runs.ensures.passes ls tells stored (cc (is, c.in_err-run.was, p.1, p.2))) [
       | inl some ↦ inl some
-      | inr many ↦ inr (subst (λ xs. Passes (map (λ r. r.value) xs) c.args.parts (map delta ls)) c.deref-2.ensures.value many)
+      | inr many ↦ inr (subst (λ xs. Passes (first_keys (map (λ r. r.value) xs)) c.args.parts (map delta ls)) c.deref-2.ensures.value many)
     ]
 
 pub merge_runs-requires-clause-several : goal.merge_runs-requires-clause-several
 merge_runs-requires-clause-several g c = λ one. absurd (omega (arith, c.if-len-eq1.false, c.len.ensures, one, ap length c.deref-2.ensures.value))
 
 pub returns-then-len-eq1-clause-too_many : goal.returns-then-len-eq1-clause-too_many
-returns-then-len-eq1-clause-too_many g c = λ ls tells are passes. absurd (passes.merged (omega (arith, c.if-len-eq1.true, c.len.ensures, length-map c.args.layers.now.runs.items (λ r. r.value))))
+returns-then-len-eq1-clause-too_many g c = λ ls tells are passes. 
+    absurd
+    (passes.merged (omega (
+      arith,
+      c.if-len-eq1.true,
+      c.len.ensures,
+      length-map c.args.layers.now.runs.items (λ r. r.value),
+      stored_lengths (bytes_of (g.H.Host.state c.args.host.now) c.args.layers.now.log.file) (own_runs c.args.layers.now) ls are.stored,
+      length-map ls delta,
+    )))
 
 pub returns-clause-too_many : goal.returns-clause-too_many
 returns-clause-too_many g c = λ ls tells are passes.
     let layers = c.args.layers.now in
     let stored = subst (λ xs. AreStored (bytes_of (g.H.Host.state c.args.host.now) layers.log.file) (map (λ r. r.value) xs) ls) (sym c.deref-2.ensures.value) are.stored in
-    absurd (c.in_ok-run.ensures.too_many ls tells stored (subst (λ xs. Passes (map (λ r. r.value) xs) c.args.parts (map delta ls)) (sym c.deref-2.ensures.value) passes))
+    absurd (c.in_ok-run.ensures.too_many ls tells stored (subst (λ xs. Passes (first_keys (map (λ r. r.value) xs)) c.args.parts (map delta ls)) (sym c.deref-2.ensures.value) passes))

@@ -28,3 +28,14 @@ returns-then-made-eq0-clause-idle g c = λ none. record { reads = reads_nothing 
 
 pub returns-clause-idle : goal.returns-clause-idle
 returns-clause-idle g c = λ none. absurd (omega (arith, none, c.if-made-eq0.false, c.made.ensures.made))
+
+pub returns-then-made-eq0-clause-cut : goal.returns-then-made-eq0-clause-cut
+returns-then-made-eq0-clause-cut g c = record { none = λ none. refl; one = λ some. absurd (omega (arith, some, c.if-made-eq0.true, c.made.ensures.made)) }
+
+pub returns-clause-cut : goal.returns-clause-cut
+returns-clause-cut g c =
+    on_ok c.close.result c.close.ensures.closes.closed
+    (λ closed. record {
+      none = λ none. absurd (omega (arith, none, c.if-made-eq0.false, c.made.ensures.made));
+      one = λ some. record { run = closed.run; runs = closed.runs; cut = closed.cut };
+    })

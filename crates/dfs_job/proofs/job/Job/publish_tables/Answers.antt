@@ -19,6 +19,7 @@ use Rattle.dfs_job.proofs.Fair.{within_fits}
 use Rattle.dfs_job.proofs.Keeping.{account_short, too_many_short}
 use Rattle.dfs_job.specs.Sealed.{IsSealable}
 use Rattle.dfs_job.specs.Stands.{Passes, own_count}
+use Rattle.dfs_job.proofs.Flushed.{firsts_flushed, flushed_sealable}
 use Rattle.dfs_job.proofs.Layers.{flushed_closed}
 use Rattle.dfs_job.proofs.Parting.{passes_more}
 use Rattle.dfs_job.proofs.job.Job.publish_tables.Goals as goal
@@ -30,13 +31,7 @@ seal-requires-clause-sealable g c = λ tells.
     let one = c.requires.sound.stands told in
     let j = one.plain in
     let file : c.flush.new.layers.log.file ≡ j.ids.job = of.works.file ∙ c.requires.sound.fit.file ∙ ap (λ (n : _). n.job) (sym one.stands.ids) in
-    record {
-      layers = (flushed j.layers).closed;
-      are = record {
-        stored = (of.works.added told refl j.layers one.stands.layers).closed;
-        own = subst (λ n. AllByRecursion (FitsJob n) (flat_map (λ (x : List _). x) (flushed j.layers).closed)) (sym file) (subst (AllByRecursion (FitsJob j.ids.job)) (sym (flushed_closed j.layers)) (all_weaker (IsRecordWithin j.ids) (FitsJob j.ids.job) (joined j.layers) (within_fits j.ids) one.stands.fair.own));
-      };
-    }
+    record { layers = (flushed j.layers).closed; are = flushed_sealable (g.H.Host.state c.flush.new.host) c.flush.new.layers j file one.stands.fair (of.works.added told refl j.layers one.stands.layers) }
 
 pub returns-clause-changes : goal.returns-clause-changes
 returns-clause-changes g c = λ j tells stands.
@@ -44,11 +39,8 @@ returns-clause-changes g c = λ j tells stands.
     let mid = g.H.Host.state c.flush.new.host in
     let file : c.flush.new.layers.log.file ≡ j.ids.job = of.works.file ∙ c.requires.sound.fit.file ∙ ap (λ (n : _). n.job) (sym stands.ids) in
     let ls = (flushed j.layers).closed in
-    let are : IsSealable mid c.flush.new.layers.log.file (own_runs c.flush.new.layers) ls = record {
-      stored = (of.works.added tells refl j.layers stands.layers).closed;
-      own = subst (λ n. AllByRecursion (FitsJob n) (flat_map (λ (x : List _). x) ls)) (sym file)
-          (subst (AllByRecursion (FitsJob j.ids.job)) (sym (flushed_closed j.layers)) (all_weaker (IsRecordWithin j.ids) (FitsJob j.ids.job) (joined j.layers) (within_fits j.ids) stands.fair.own));
-    } in
+    let now = of.works.added tells refl j.layers stands.layers in
+    let are = flushed_sealable mid c.flush.new.layers j file stands.fair now in
     let after = bytes_of (g.H.Host.state c.seal.new.host) in
     subst (λ d. IfOk c.seal.result (λ sealed. (name : List ℕ) → log_meaning (after c.args.self.now.ids.job) (entry_of name c.args.self.now.ids.job sealed) ≡ Some d)) (ap delta (flushed_closed j.layers))
     (subst (λ n. IfOk c.seal.result (λ sealed. (name : List ℕ) → log_meaning (after n) (entry_of name n sealed) ≡ Some (delta (flat_map (λ (x : List _). x) ls)))) (of.works.file ∙ c.requires.sound.fit.file)
@@ -60,11 +52,8 @@ returns-clause-count g c = λ j tells stands.
     let mid = g.H.Host.state c.flush.new.host in
     let file : c.flush.new.layers.log.file ≡ j.ids.job = of.works.file ∙ c.requires.sound.fit.file ∙ ap (λ (n : _). n.job) (sym stands.ids) in
     let ls = (flushed j.layers).closed in
-    let are : IsSealable mid c.flush.new.layers.log.file (own_runs c.flush.new.layers) ls = record {
-      stored = (of.works.added tells refl j.layers stands.layers).closed;
-      own = subst (λ n. AllByRecursion (FitsJob n) (flat_map (λ (x : List _). x) ls)) (sym file)
-          (subst (AllByRecursion (FitsJob j.ids.job)) (sym (flushed_closed j.layers)) (all_weaker (IsRecordWithin j.ids) (FitsJob j.ids.job) (joined j.layers) (within_fits j.ids) stands.fair.own));
-    } in
+    let now = of.works.added tells refl j.layers stands.layers in
+    let are = flushed_sealable mid c.flush.new.layers j file stands.fair now in
     subst (λ d. IfOk c.seal.result (λ sealed. sealed.count ≡ len d)) (ap delta (flushed_closed j.layers)) (c.seal.ensures.count ls (of.cause.tells ∙ tells) are)
 
 pub returns-clause-only : goal.returns-clause-only
@@ -118,14 +107,11 @@ returns-clause-passes g c = λ j tells stands is.
     let mid = g.H.Host.state c.flush.new.host in
     let file : c.flush.new.layers.log.file ≡ j.ids.job = of.works.file ∙ c.requires.sound.fit.file ∙ ap (λ (n : _). n.job) (sym stands.ids) in
     let ls = (flushed j.layers).closed in
-    let are : IsSealable mid c.flush.new.layers.log.file (own_runs c.flush.new.layers) ls = record {
-      stored = (of.works.added tells refl j.layers stands.layers).closed;
-      own = subst (λ n. AllByRecursion (FitsJob n) (flat_map (λ (x : List _). x) ls)) (sym file)
-          (subst (AllByRecursion (FitsJob j.ids.job)) (sym (flushed_closed j.layers)) (all_weaker (IsRecordWithin j.ids) (FitsJob j.ids.job) (joined j.layers) (within_fits j.ids) stands.fair.own));
-    } in
+    let now = of.works.added tells refl j.layers stands.layers in
+    let are = flushed_sealable mid c.flush.new.layers j file stands.fair now in
     elim (c.seal.ensures.passes ls (of.cause.tells ∙ tells) are is) [
       | inl some ↦ inl some
-      | inr many ↦ inr (subst (λ xs. Passes (map (λ r. r.value) xs) c.args.self.now.settings.parts (map delta ls)) (sym c.seal.ensures.same.1) many)
+      | inr many ↦ inr (subst (λ ks. Passes ks c.args.self.now.settings.parts (map delta ls)) (firsts_flushed (g.H.Host.state c.args.host.now) mid c.args.self.now.layers c.flush.new.layers j.layers stands.layers now.closed of.cut) many)
     ]
 
 pub returns-clause-too_many : goal.returns-clause-too_many
@@ -134,12 +120,10 @@ returns-clause-too_many g c = λ j tells stands passes.
     let mid = g.H.Host.state c.flush.new.host in
     let file : c.flush.new.layers.log.file ≡ j.ids.job = of.works.file ∙ c.requires.sound.fit.file ∙ ap (λ (n : _). n.job) (sym stands.ids) in
     let ls = (flushed j.layers).closed in
-    let are : IsSealable mid c.flush.new.layers.log.file (own_runs c.flush.new.layers) ls = record {
-      stored = (of.works.added tells refl j.layers stands.layers).closed;
-      own = subst (λ n. AllByRecursion (FitsJob n) (flat_map (λ (x : List _). x) ls)) (sym file)
-          (subst (AllByRecursion (FitsJob j.ids.job)) (sym (flushed_closed j.layers)) (all_weaker (IsRecordWithin j.ids) (FitsJob j.ids.job) (joined j.layers) (within_fits j.ids) stands.fair.own));
-    } in
-    c.seal.ensures.too_many ls (of.cause.tells ∙ tells) are (subst (λ xs. Passes (map (λ r. r.value) xs) c.args.self.now.settings.parts (map delta ls)) c.seal.ensures.same.1 passes)
+    let now = of.works.added tells refl j.layers stands.layers in
+    let are = flushed_sealable mid c.flush.new.layers j file stands.fair now in
+    c.seal.ensures.too_many ls (of.cause.tells ∙ tells) are 
+    (subst (λ ks. Passes ks c.args.self.now.settings.parts (map delta ls)) (sym (firsts_flushed (g.H.Host.state c.args.host.now) mid c.args.self.now.layers c.flush.new.layers j.layers stands.layers now.closed of.cut)) passes)
 
 pub returns-in_err-flush-clause-passes : goal.returns-in_err-flush-clause-passes
 returns-in_err-flush-clause-passes g c = λ j tells stands is.

@@ -16,12 +16,12 @@ use Rattle.dfs_job.specs.declared.job.Job.{Job as LiveJob}
 use Rattle.dfs_job.specs.declared.answers.JobPart.{JobPart}
 use Rattle.dfs_job.specs.Job.{Job, after_part}
 use Rattle.dfs_job.specs.Stands.{merges_too_many}
-use Rattle.dfs_session.specs.Session.{merges_with, of_live, told_of_part}
-use Rattle.dfs_session.specs.Worked.{IsShort, IsWorked, merging}
-use Rattle.dfs_session.proofs.Changing.{answered_worked, changed_stands, fault_worked, found_job, left_basis, no_job, part_passed, past_of, so_of_job, was_sound}
-use Rattle.dfs_session.proofs.Handed.{none_unless}
+use Rattle.dfs_session.specs.Session.{live_job, merges, merges_with, of_live, told_of_part}
+use Rattle.dfs_session.specs.Worked.{IsRefused, IsShort, IsWorked, PartPasses, merging}
+use Rattle.dfs_session.proofs.Changing.{answered_worked, changed_stands, fault_worked, found_job, left_basis, no_job, part_passed, part_passes, past_of, so_of_job, was_sound}
+use Rattle.dfs_session.proofs.Handed.{none_unless, part_refused}
 use Rattle.dfs_session.proofs.Selecting.{no_fault}
-use Rattle.dfs_session.proofs.Working.{stays_in_memory}
+use Rattle.dfs_session.proofs.Working.{on_ok, stays_in_memory}
 use Rattle.dfs_session.proofs.session.Session.part.Goals as goal
 
 pub part-requires : goal.part-requires
@@ -29,8 +29,8 @@ part-requires g c =
     let host = g.H.Host.state c.args.host.now in
     record { sound = was_sound host host c.args.self.now c.args.word.now c.in-Some.job.now c.requires (sym c.in-Some.ensures.value) }
 
-pub returns-in_default : goal.returns-in_default
-returns-in_default g c =
+pub returns-in_default-clause-worked : goal.returns-in_default-clause-worked
+returns-in_default-clause-worked g c =
     let session = c.args.self.now in
     let host = g.H.Host.state c.args.host.now in
     let w = c.args.word.now in
@@ -38,8 +38,8 @@ returns-in_default g c =
     (λ s tells stands. ap (λ (o : Option Job). of_live o s (λ j. merges_with s w j c.args.part)) (no_job host session s w stands (sym c.in_default.ensures.value)))
     c.text_of.ensures.text c.text_of.ensures.memory
 
-pub returns-in_err-answer : goal.returns-in_err-answer
-returns-in_err-answer g c =
+pub returns-in_err-answer-clause-worked : goal.returns-in_err-answer-clause-worked
+returns-in_err-answer-clause-worked g c =
     let session = c.args.self.now in
     let before = g.H.Host.state c.args.host.now in
     let after = g.H.Host.state c.part.new.host in
@@ -60,8 +60,8 @@ returns-in_err-answer g c =
     subst IsShort (sym f.found) (c.part.ensures.short f.plain tells f.is (was ∙ ap Err is)))
     (λ s tells stands is. let f = found_job before session s w live stands found in part_passed before after session w live c.requires found s f c.args.part (c.part.ensures.passes f.plain tells f.is (was ∙ ap Err is))))
 
-pub returns : goal.returns
-returns g c =
+pub returns-clause-worked : goal.returns-clause-worked
+returns-clause-worked g c =
     let session = c.args.self.now in
     let before = g.H.Host.state c.args.host.now in
     let after = g.H.Host.state c.part.new.host in
@@ -81,3 +81,21 @@ returns g c =
     (λ s f. ap (λ (o : Option Job). of_live o s (λ j. merges_with s w j part)) f.found) (λ s f. refl)
     (λ s f tells. subst (λ (a : JobPart). IfOk c.text_of-2.result (λ bytes. bytes.items ≡ text (told_of_part a))) (of.answer f.plain tells f.is) (subst (λ (r : Reply). IfOk c.text_of-2.result (λ bytes. bytes.items ≡ text r)) c.told_of_part.ensures c.text_of-2.ensures.text))
     (λ s f tells stands. changed_stands before after session w live c.requires found c.part.ensures.only x jobs set s (after_part f.plain part) tells stands (of.stands f.plain tells f.is)) c.text_of-2.ensures.memory (λ quiet. quiet)
+
+pub returns-in_default-clause-too_many : goal.returns-in_default-clause-too_many
+returns-in_default-clause-too_many g c = λ s tells stands many. absurd (subst (λ (o : Option LiveJob). PartPasses o (live_job s c.args.word.now) c.args.part) (sym c.in_default.ensures.value) many)
+
+pub returns-clause-too_many : goal.returns-clause-too_many
+returns-clause-too_many g c = λ s tells stands many.
+    let before = g.H.Host.state c.args.host.now in
+    let session = c.args.self.now in
+    let w = c.args.word.now in
+    let part = c.args.part in
+    let live = c.in-Some.job.now in
+    let found = sym c.in-Some.ensures.value in
+    let f = found_job before session s w live stands found in
+    let of = c.in_ok-answer.ensures in
+    let answer = c.in_ok-answer.answer in
+    let refused = part_refused answer (of.too_many f.plain tells f.is (part_passes before before session w live c.requires found s f part many)) in
+    let said : (merges s w part).reply ≡ told_of_part answer = ap (λ (o : Option Job). (of_live o s (λ j. merges_with s w j part)).reply) f.found ∙ ap told_of_part (sym (of.answer f.plain tells f.is)) in
+    on_ok c.text_of-2.result (IsRefused (merges s w part).reply) (subst IsRefused (sym said) refused)

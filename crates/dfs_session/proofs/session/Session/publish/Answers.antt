@@ -1,23 +1,24 @@
-use Rattle.std.proofs.Common.{◌≡◌, ◌∙◌, true, false, Option, length, refl, sym, ap, arith}
+use Rattle.std.proofs.Common.{◌≡◌, ◌∙◌, true, false, Option, length, refl, sym, ap, subst, arith}
 use Rattle.std.proofs.lemmas.Bool.{le-leb, lt-leb}
-use Rattle.std.specs.Prelude.{nat_le, is_some}
+use Rattle.std.specs.Prelude.{nat_le, is_some, OnOk}
 use Rattle.dfs_host.proofs.Causes.{none_yet}
 use Rattle.dfs_reply.specs.declared.Reply.TheVariants.{Error}
 use Rattle.dfs_reply.specs.declared.Word.TheVariants as word
 use Rattle.dfs_job.specs.Job.{Job}
 use Rattle.dfs_session.specs.Selected.{is_listed}
-use Rattle.dfs_session.specs.Session.{of_live, publishes}
+use Rattle.dfs_job.specs.declared.job.Job.{Job as LiveJob}
+use Rattle.dfs_session.specs.Session.{Step, live_job, of_live, publishes, publishes_for}
 use Rattle.dfs_session.specs.Sound.{listed_in, live_in}
-use Rattle.dfs_session.specs.Worked.{publishing, publishing_anew}
+use Rattle.dfs_session.specs.Worked.{IsRefused, PublicationPasses, publishing, publishing_anew}
 use Rattle.dfs_session.proofs.Changing.{no_job, found_job, some_of, none_of}
 use Rattle.dfs_session.proofs.Choosing.{publishes_as, publishes_as_anew, any_found, after_reads}
 use Rattle.dfs_host.proofs.Moments.{reads_nothing}
 use Rattle.dfs_session.proofs.Lists.{lent_some}
-use Rattle.dfs_session.proofs.Working.{stays_in_memory}
+use Rattle.dfs_session.proofs.Working.{on_ok, on_ok_by, stays_in_memory}
 use Rattle.dfs_session.proofs.session.Session.publish.Goals as goal
 
-pub returns-then-not-contains_key : goal.returns-then-not-contains_key
-returns-then-not-contains_key g c =
+pub returns-then-not-contains_key-clause-worked : goal.returns-then-not-contains_key-clause-worked
+returns-then-not-contains_key-clause-worked g c =
     let session = c.args.self.now in
     let host = g.H.Host.state c.args.host.now in
     let w = c.args.word.now in
@@ -25,8 +26,8 @@ returns-then-not-contains_key g c =
     (λ s tells stands. ap (λ (o : Option Job). of_live o s (λ j. publishes s w j c.args.name)) (no_job host session s w stands (none_of (live_in session w) (sym c.if-not-contains_key.ensures))))
     c.text_of.ensures.text c.text_of.ensures.memory
 
-pub returns-then-is_some : goal.returns-then-is_some
-returns-then-is_some g c =
+pub returns-then-is_some-clause-worked : goal.returns-then-is_some-clause-worked
+returns-then-is_some-clause-worked g c =
     let session = c.args.self.now in
     let host = g.H.Host.state c.args.host.now in
     let w = c.args.word.now in
@@ -37,8 +38,8 @@ returns-then-is_some g c =
     (λ s tells stands. publishes_as host session s w live.0 name stands (found_job host session s w live.0 stands live.1) true (nat_le 4096 (length (listed_in session))) taken refl)
     c.text_of-then-is_some.ensures.text c.text_of-then-is_some.ensures.memory
 
-pub returns-then-count-ge-MOST_PUBLICATIONS : goal.returns-then-count-ge-MOST_PUBLICATIONS
-returns-then-count-ge-MOST_PUBLICATIONS g c =
+pub returns-then-count-ge-MOST_PUBLICATIONS-clause-worked : goal.returns-then-count-ge-MOST_PUBLICATIONS-clause-worked
+returns-then-count-ge-MOST_PUBLICATIONS-clause-worked g c =
     let session = c.args.self.now in
     let host = g.H.Host.state c.args.host.now in
     let w = c.args.word.now in
@@ -54,8 +55,8 @@ pub publish_anew-requires-clause-anew : goal.publish_anew-requires-clause-anew
 publish_anew-requires-clause-anew g c =
     any_found c.args.name (listed_in c.args.self.now) ∙ sym (c.if-is_some.ensures ∙ sym (lent_some c.find.result) ∙ ap is_some c.find.ensures)
 
-pub returns : goal.returns
-returns g c =
+pub returns-clause-worked : goal.returns-clause-worked
+returns-clause-worked g c =
     let session = c.args.self.now in
     let host = g.H.Host.state c.args.host.now in
     let after = g.H.Host.state c.publish_anew.new.host in
@@ -66,4 +67,37 @@ returns g c =
     let few : false ≡ nat_le 4096 (length (listed_in session)) = sym (lt-leb 4096 (length (listed_in session)) (omega (arith, c.if-count-ge-MOST_PUBLICATIONS.false, c.count.ensures.count))) in
     after_reads host host after session c.publish_anew.new.self (publishing w name) (publishing_anew w name) c.publish_anew.result c.requires (reads_nothing host) (none_yet host)
     (λ s tells stands. publishes_as_anew host session s w live.0 name stands (found_job host session s w live.0 stands live.1) anew few) (λ s. refl) (λ t. refl)
-    c.publish_anew.ensures (λ quiet. absurd quiet) refl refl (λ s many. many)
+    c.publish_anew.ensures.worked (λ quiet. absurd quiet) refl refl (λ s many. many)
+
+pub returns-then-not-contains_key-clause-too_many : goal.returns-then-not-contains_key-clause-too_many
+returns-then-not-contains_key-clause-too_many g c = λ s tells stands many.
+    let w = c.args.word.now in
+    absurd (subst (λ (o : Option LiveJob). PublicationPasses o (live_job s w)) (none_of (live_in c.args.self.now w) (sym c.if-not-contains_key.ensures)) many)
+
+pub returns-then-is_some-clause-too_many : goal.returns-then-is_some-clause-too_many
+returns-then-is_some-clause-too_many g c = λ s tells stands many.
+    let session = c.args.self.now in
+    let host = g.H.Host.state c.args.host.now in
+    let w = c.args.word.now in
+    let name = c.args.name in
+    let result = c.text_of-then-is_some.result in
+    let live = some_of (live_in session w) (sym c.if-not-contains_key.ensures) in
+    let taken : true ≡ is_listed (listed_in session) name = c.if-is_some.ensures ∙ sym (lent_some c.find.result) ∙ ap is_some c.find.ensures in
+    subst (λ (t : Step). OnOk result (IsRefused t.reply)) (sym (publishes_as host session s w live.0 name stands (found_job host session s w live.0 stands live.1) true (nat_le 4096 (length (listed_in session))) taken refl))
+    (on_ok result (Unit {0}) tt)
+
+pub returns-then-count-ge-MOST_PUBLICATIONS-clause-too_many : goal.returns-then-count-ge-MOST_PUBLICATIONS-clause-too_many
+returns-then-count-ge-MOST_PUBLICATIONS-clause-too_many g c = λ s tells stands many.
+    let session = c.args.self.now in
+    let host = g.H.Host.state c.args.host.now in
+    let w = c.args.word.now in
+    let name = c.args.name in
+    let result = c.text_of-then-count-ge-MOST_PUBLICATIONS.result in
+    let live = some_of (live_in session w) (sym c.if-not-contains_key.ensures) in
+    let anew : false ≡ is_listed (listed_in session) name = c.if-is_some.ensures ∙ sym (lent_some c.find.result) ∙ ap is_some c.find.ensures in
+    let full : true ≡ nat_le 4096 (length (listed_in session)) = sym (le-leb 4096 (length (listed_in session)) (omega (arith, c.if-count-ge-MOST_PUBLICATIONS.true, c.count.ensures.count))) in
+    subst (λ (t : Step). OnOk result (IsRefused t.reply)) (sym (publishes_as host session s w live.0 name stands (found_job host session s w live.0 stands live.1) false true anew full))
+    (on_ok result (Unit {0}) tt)
+
+pub returns-clause-too_many : goal.returns-clause-too_many
+returns-clause-too_many g c = λ s tells stands many. on_ok_by c.publish_anew.result ⊥ (IsRefused (publishes_for s c.args.word.now c.args.name).reply) (λ never. absurd never) (c.publish_anew.ensures.too_many s tells stands many)

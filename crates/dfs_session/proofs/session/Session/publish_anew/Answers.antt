@@ -15,10 +15,10 @@ use Rattle.dfs_script.specs.declared.JobWord.{JobWord}
 use Rattle.dfs_job.specs.declared.job.Job.{Job as LiveJob}
 use Rattle.dfs_job.specs.Job.{Job}
 use Rattle.dfs_job.specs.Stands.{publishes_too_many}
-use Rattle.dfs_session.specs.Session.{of_live, publishes_anew, word_cmp}
+use Rattle.dfs_session.specs.Session.{live_job, of_live, publishes_anew, word_cmp}
 use Rattle.dfs_session.specs.Sound.{jobs_of}
-use Rattle.dfs_session.specs.Worked.{IsShort, IsWorked, publishing_anew}
-use Rattle.dfs_session.proofs.Changing.{fault_worked, found_job, no_job, past_of, publication_passed, registry_still, so_of_job, still_unrefused, was_live, was_sound}
+use Rattle.dfs_session.specs.Worked.{IsShort, IsWorked, PublicationPasses, publishing_anew}
+use Rattle.dfs_session.proofs.Changing.{fault_worked, found_job, no_job, past_of, publication_passed, publication_passes, registry_still, so_of_job, still_unrefused, was_live, was_sound}
 use Rattle.dfs_session.proofs.Handed.{fault_or, memory_not_full, none_unless}
 use Rattle.dfs_session.proofs.Jobs.{Live, remove_set}
 use Rattle.dfs_session.proofs.Publishing.{in_range, published_worked, unlisted_worked}
@@ -26,8 +26,8 @@ use Rattle.dfs_session.proofs.Selecting.{no_fault}
 use Rattle.dfs_session.proofs.Working.{memory_cause, stays_in_memory}
 use Rattle.dfs_session.proofs.session.Session.publish_anew.Goals as goal
 
-pub returns-in_default : goal.returns-in_default
-returns-in_default g c =
+pub returns-in_default-clause-worked : goal.returns-in_default-clause-worked
+returns-in_default-clause-worked g c =
     let session = c.args.self.now in
     let host = g.H.Host.state c.args.host.now in
     let w = c.args.word.now in
@@ -40,8 +40,8 @@ publish_tables-requires g c =
     let host = g.H.Host.state c.args.host.now in
     record { sound = was_sound host host c.args.self.now c.args.word.now c.in-Some.job.now c.requires.sound (sym c.in-Some.ensures.value) }
 
-pub returns-in_err-sealed : goal.returns-in_err-sealed
-returns-in_err-sealed g c =
+pub returns-in_err-sealed-clause-worked : goal.returns-in_err-sealed-clause-worked
+returns-in_err-sealed-clause-worked g c =
     let session = c.args.self.now in
     let w = c.args.word.now in
     let before = g.H.Host.state c.args.host.now in
@@ -61,10 +61,10 @@ returns-in_err-sealed g c =
     (λ s tells stands is.
     let f = found_job before session s w live stands found in
     subst IsShort (sym f.found) (wrote.short f.plain tells f.is (was ∙ ap Err is)))
-    (λ s tells stands is. let f = found_job before session s w live stands found in publication_passed before mid session w live c.requires.sound found wrote.only x jobs (c.get_mut.follows.holds x).0 s f (wrote.passes f.plain tells f.is (was ∙ ap Err is))))
+    (λ s tells stands is. let f = found_job before session s w live stands found in publication_passed before mid session w live c.requires.sound found s f (wrote.passes f.plain tells f.is (was ∙ ap Err is))))
 
-pub returns-in_err-reply : goal.returns-in_err-reply
-returns-in_err-reply g c =
+pub returns-in_err-reply-clause-worked : goal.returns-in_err-reply-clause-worked
+returns-in_err-reply-clause-worked g c =
     let session = c.args.self.now in
     let w = c.args.word.now in
     let before = g.H.Host.state c.args.host.now in
@@ -93,8 +93,8 @@ list-requires-clause-job_apart g c =
 pub list-requires-clause-job_range : goal.list-requires-clause-job_range
 list-requires-clause-job_range g c = in_range (g.H.Host.state c.args.host.now) c.args.self.now c.args.word.now c.in-Some.job.now c.requires.sound (sym c.in-Some.ensures.value)
 
-pub returns-in_err-list : goal.returns-in_err-list
-returns-in_err-list g c =
+pub returns-in_err-list-clause-worked : goal.returns-in_err-list-clause-worked
+returns-in_err-list-clause-worked g c =
     let session = c.args.self.now in
     let w = c.args.word.now in
     let before = g.H.Host.state c.args.host.now in
@@ -121,8 +121,8 @@ returns-in_err-list g c =
     (λ is. listing.memory (was ∙ ap Err is)) (λ is. listing.never_full (was ∙ ap Err is)) (λ file at is. listing.never_changed file at (was ∙ ap Err is))
     (still_unrefused before mid session w live c.requires.sound found wrote.only x jobs (c.get_mut.follows.holds x).0 (none_unless x.layers.log.refused (λ some. ok LogFull c.in_ok-sealed.was (wrote.refuses some)))))
 
-pub returns : goal.returns
-returns g c =
+pub returns-clause-worked : goal.returns-clause-worked
+returns-clause-worked g c =
     let session = c.args.self.now in
     let w = c.args.word.now in
     let before = g.H.Host.state c.args.host.now in
@@ -144,3 +144,16 @@ returns g c =
 
 pub end-requires : goal.end-requires
 end-requires g c = c.requires.sound.memory.kept
+
+pub returns-in_default-clause-too_many : goal.returns-in_default-clause-too_many
+returns-in_default-clause-too_many g c = λ s tells stands many. absurd (subst (λ (o : Option LiveJob). PublicationPasses o (live_job s c.args.word.now)) (sym c.in_default.ensures.value) many)
+
+pub returns-clause-too_many : goal.returns-clause-too_many
+returns-clause-too_many g c = λ s tells stands many.
+    let before = g.H.Host.state c.args.host.now in
+    let session = c.args.self.now in
+    let w = c.args.word.now in
+    let live = c.in-Some.job.now in
+    let found = sym c.in-Some.ensures.value in
+    let f = found_job before session s w live stands found in
+    c.in_ok-sealed.ensures.too_many f.plain tells f.is (publication_passes before before session w live c.requires.sound found s f many)

@@ -2,19 +2,15 @@ use Rattle.std.proofs.Common.{◌∙◌, inl, inr, sym, subst}
 use Rattle.dfs_script.specs.Line.{meaning}
 use Rattle.dfs_session.specs.Session.{step as step_of}
 use Rattle.dfs_session.specs.Worked.{quiet_by}
-use Rattle.dfs_session.proofs.Handed.{passes_still}
 use Rattle.dfs_session.proofs.Images.{image_holds}
 use Rattle.dfs_session.proofs.session.Session.step.Goals as goal
 
 pub returns-in-Ok-clause-durable : goal.returns-in-Ok-clause-durable
 returns-in-Ok-clause-durable g c = λ s tells stands image left.
-    image_holds (g.H.Host.state c.work.new.host) c.work.new.self (step_of s c.args.line.now).session image (c.work.ensures.cause.tells ∙ tells) c.in-Ok.ensures.sound (c.in-Ok.ensures.stands s tells stands) left
+    image_holds (g.H.Host.state c.work.new.host) c.work.new.self (step_of s c.args.line.now).session image (c.work.ensures.worked.cause.tells ∙ tells) c.in-Ok.ensures.worked.sound (c.in-Ok.ensures.worked.stands s tells stands) left
 
 pub returns-in-Ok-clause-kept : goal.returns-in-Ok-clause-kept
-returns-in-Ok-clause-kept g c = λ word names is selected. c.in-Ok.ensures.reads (subst (λ line. quiet_by line c.args.self.now) (sym is) selected)
+returns-in-Ok-clause-kept g c = λ word names is selected. c.in-Ok.ensures.worked.reads (subst (λ line. quiet_by line c.args.self.now) (sym is) selected)
 
 pub returns-in-Err-clause-passes : goal.returns-in-Err-clause-passes
-returns-in-Err-clause-passes g c = λ s tells stands is. elim (c.work.ensures.passes s tells stands (c.in-Err.is ∙ is)) [
-  | inl holds ↦ inl holds
-  | inr many ↦ inr (passes_still (meaning c.args.line.now) s c.args.self.now c.work.new.self many)
-]
+returns-in-Err-clause-passes g c = λ s tells stands is. c.work.ensures.worked.passes s tells stands (c.in-Err.is ∙ is)

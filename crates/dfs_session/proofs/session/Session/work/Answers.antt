@@ -16,24 +16,24 @@ use Rattle.dfs_session.proofs.Handed.{memory_not_full}
 use Rattle.dfs_session.proofs.Working.{memory_cause, stays_in_memory}
 use Rattle.dfs_session.proofs.session.Session.work.Goals as goal
 
-pub returns-in-Err-Long : goal.returns-in-Err-Long
-returns-in-Err-Long g c =
+pub returns-in-Err-Long-clause-worked : goal.returns-in-Err-Long-clause-worked
+returns-in-Err-Long-clause-worked g c =
     let host = g.H.Host.state c.args.host.now in
     let session = c.args.self.now in
     let line = c.args.line.now in
     let is : meaning line ≡ Err Long = subst (λ (fault : LineFault). IsSaid (Err fault) (meaning line)) c.in-Err-Long.field-0-is c.in-Err-Long.ensures.meaning in
     stays_in_memory host session session.jobs (of_line line) (Error word.Long) c.text_of.result refl (sym (ap (λ m. settings_by session.settings m) is)) c.requires (λ s tells stands. ap (after_meaning s) is) c.text_of.ensures.text c.text_of.ensures.memory
 
-pub returns-in-Err-Syntax : goal.returns-in-Err-Syntax
-returns-in-Err-Syntax g c =
+pub returns-in-Err-Syntax-clause-worked : goal.returns-in-Err-Syntax-clause-worked
+returns-in-Err-Syntax-clause-worked g c =
     let host = g.H.Host.state c.args.host.now in
     let session = c.args.self.now in
     let line = c.args.line.now in
     let is : meaning line ≡ Err Syntax = subst (λ (fault : LineFault). IsSaid (Err fault) (meaning line)) c.in-Err-Syntax.field-0-is c.in-Err-Syntax.ensures.meaning in
     stays_in_memory host session session.jobs (of_line line) (Error word.Syntax) c.text_of-in-Err-Syntax.result refl (sym (ap (λ m. settings_by session.settings m) is)) c.requires (λ s tells stands. ap (after_meaning s) is) c.text_of-in-Err-Syntax.ensures.text c.text_of-in-Err-Syntax.ensures.memory
 
-pub returns-in-Err-NoMemory : goal.returns-in-Err-NoMemory
-returns-in-Err-NoMemory g c =
+pub returns-in-Err-NoMemory-clause-worked : goal.returns-in-Err-NoMemory-clause-worked
+returns-in-Err-NoMemory-clause-worked g c =
     let host = g.H.Host.state c.args.host.now in
     let session = c.args.self.now in
     read_fault_worked {T = Vec ℕ} host host session (of_line c.args.line.now) NoMemory c.requires (reads_nothing host) (memory_cause (Err NoMemory) (none_yet host) refl) memory_not_full

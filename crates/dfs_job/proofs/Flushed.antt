@@ -1,11 +1,10 @@
 -- What a job has once its open layer is closed.
-use Rattle.std.proofs.Common.{◌≡◌, ◌∙◌, ◌≤◌, ℕ, List, [], ◌∷◌, ◌++◌, length, map, refl, sym, ap, subst, arith, append-nil}
+use Rattle.std.proofs.Common.{◌≡◌, ◌∙◌, ℕ, List, [], ◌∷◌, ◌++◌, length, map, refl, sym, ap, subst, arith, append-nil}
 use Rattle.std.specs.Prelude.{flat_map}
 use Rattle.std.specs.List.{AllByRecursion}
 use Rattle.std.proofs.lemmas.Grind.{flat_map-append}
 use Rattle.std.proofs.lemmas.List.{map-append}
 use Rattle.dfs_host.specs.Host.{HostState, bytes_of}
-use Rattle.dfs_record.specs.declared.Key.{Key}
 use Rattle.dfs_record.specs.declared.Record.{Record}
 use Rattle.dfs_record.specs.Delta.{delta, records_of}
 use Rattle.dfs_change.specs.Identities.{FitsJob}

@@ -1,4 +1,4 @@
-// Laws of the definitions, each the contract of a function that does nothing.
+//! Laws of the definitions, each the contract of a function that does nothing.
 ghost use Rattle.dfs_registry.specs.Reading.{BodiesReadBack, BodiesAreSpelled, ListsReadBack};
 
 /// A publication's bytes are read as this publication, whatever stands behind them, and no other bytes are. A registry at rest

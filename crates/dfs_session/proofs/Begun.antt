@@ -76,9 +76,6 @@ still_none old new job ended other none = by (same_or_not other job)
     by (inl same) = ap (begin_in new) same ∙ ended.here
     by (inr apart) = ended.others other apart ∙ none (λ is. apart (sym is))
 
-pub each_none : (P : Change → Type 0) (kept : Kept) → ((job : ℕ) → begin_in kept job ≡ []) → EachBegun P kept
-each_none P kept none job = subst (AllByRecursion P) (sym (none job)) tt
-
 -- what is so of each change of each begin is so of what is found
 pub of_found : (P : Change → Type 0) (kept : Kept) (u : Use) (c : Change) → IsIndexed kept → EachBegun P kept → kept_at kept u ≡ Some c → P c
 of_found P kept u c indexed all is =

@@ -52,14 +52,6 @@ pub all_next : {X : Type 0} (p : X → Bool) (xs : List X) (k : ℕ) (x : X) →
 all_next p xs k x at before passes =
     ap (list_all p) (take_next xs k x at) ∙ all-append p (take k xs) (x ∷ []) ∙ ap (λ (b : Bool). b && (p x && true)) before ∙ ap (λ (b : Bool). b && true) passes
 
-pub filter_map-append : {X Y : Type 0} (f : X → Option Y) (xs ys : List X) → filter_map f (xs ++ ys) ≡ filter_map f xs ++ filter_map f ys
-filter_map-append f [] ys = refl
-filter_map-append f (x ∷ xs) ys = by (f x) (filter_map-append f xs ys)
-  where
-    by : (o : Option _) → filter_map f (xs ++ ys) ≡ filter_map f xs ++ filter_map f ys → cons_option o (filter_map f (xs ++ ys)) ≡ cons_option o (filter_map f xs) ++ filter_map f ys
-    by None rest = rest
-    by (Some y) rest = ap (λ l. y ∷ l) rest
-
 abbrev IsFound : {X : Type 0} → Option X → Type 0
 IsFound None = ⊥
 IsFound (Some x) = Unit {0}

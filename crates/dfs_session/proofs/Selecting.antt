@@ -5,6 +5,7 @@ use Rattle.std.proofs.lemmas.List.{map-append}
 use Rattle.std.proofs.lemmas.Option.{none-some}
 use Rattle.std.specs.Prelude.{◌||◌, nat_eq, slice_get, filter_map, find, is_some, map, not, IsTrue, Result, Ok, Err, IfNone, IfOk, IfSome}
 use Rattle.std.specs.List.{AllByRecursion, AllZip, list_all, cons_option}
+use Rattle.std.proofs.lemmas.List.Elements.{filter_map-append}
 use Rattle.dfs_host.specs.Disk.{FileState}
 use Rattle.dfs_host.specs.Fault.{NoFault}
 use Rattle.dfs_host.specs.Host.{HostState, Told, OnlyReads, bytes_of}
@@ -33,7 +34,7 @@ use Rattle.dfs_session.specs.Kept.{IsInside, IsKept, IsOpened, IsOwn}
 use Rattle.dfs_session.specs.Sound.{IsEntry}
 use Rattle.dfs_job.proofs.Apart.{selectable_still}
 use Rattle.dfs_session.proofs.Kept.{reads_keep}
-use Rattle.dfs_session.proofs.Lists.{mapped, take_next, parted, filter_map-append, find-append, not_all}
+use Rattle.dfs_session.proofs.Lists.{mapped, take_next, parted, find-append, not_all}
 
 -- what was selected of the names before an index
 pub record SoFar (start now : HostState) (ls : List Listed) (kept : Kept) (line : List SnapName) (index : ℕ) (cs : List Change) : Type 0 where

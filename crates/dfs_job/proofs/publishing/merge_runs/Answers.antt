@@ -1,4 +1,4 @@
-use Rattle.std.proofs.Common.{inl, inr, ◌∙◌, ap, arith, length, map, subst, sym}
+use Rattle.std.proofs.Common.{inl, inr, ap, arith, length, map, subst}
 use Rattle.std.proofs.lemmas.Result.{err_from_is_err_and}
 use Rattle.std.specs.List.{sum_by}
 use Rattle.dfs_host.specs.Host.{bytes_of}

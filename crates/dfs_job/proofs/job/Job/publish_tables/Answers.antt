@@ -1,23 +1,16 @@
 use Rattle.std.proofs.Common.{inl, inr, ◌∙◌, ◌≡◌, ◌+◌, ◌*◌, ap, arith, sym, subst, refl, flat_map, map, List, ℕ, Some}
 use Rattle.std.specs.Prelude.{IfOk}
 use Rattle.std.proofs.lemmas.Result.{err_from_is_err_and}
-use Rattle.std.specs.List.{AllByRecursion}
 use Rattle.dfs_host.specs.Host.{Only, bytes_of}
 use Rattle.dfs_host.proofs.Moments.{only_goes_on}
 use Rattle.dfs_record.specs.Delta.{delta}
 use Rattle.dfs_record.specs.KeyMap.{len}
-use Rattle.dfs_change.specs.Identities.{FitsJob}
 use Rattle.dfs_change.specs.Meant.{log_meaning}
 use Rattle.dfs_change.specs.Sealing.{entry_of}
-use Rattle.dfs_ops.specs.Within.{IsRecordWithin}
-use Rattle.dfs_table.proofs.Stays.{all_weaker}
-use Rattle.dfs_view.specs.Layers.{own_runs}
-use Rattle.dfs_view.specs.Lists.{flushed, joined}
+use Rattle.dfs_view.specs.Lists.{flushed}
 use Rattle.dfs_view.specs.View.{closed_count}
 use Rattle.dfs_job.specs.declared.settings.Settings.{Settings}
-use Rattle.dfs_job.proofs.Fair.{within_fits}
 use Rattle.dfs_job.proofs.Keeping.{account_short, too_many_short}
-use Rattle.dfs_job.specs.Sealed.{IsSealable}
 use Rattle.dfs_job.specs.Stands.{Passes, own_count}
 use Rattle.dfs_job.proofs.Flushed.{firsts_flushed, flushed_sealable}
 use Rattle.dfs_job.proofs.Layers.{flushed_closed}

@@ -6,7 +6,7 @@ use Rattle.std.specs.Prelude.{◌&&◌, IfOk, IfNone, IfSome, OnOk, IsErrOf, IsT
 use Rattle.std.specs.BTreeMap.{BTreeMap, is_at}
 use Rattle.std.specs.Global.{Vec}
 use Rattle.std.specs.List.{AllByRecursion, AllZip, list_any}
-use Rattle.std.specs.Map.{lookup, set_value, remove_entry}
+use Rattle.std.specs.Map.{set_value, remove_entry}
 use Rattle.dfs_host.specs.Fault.{HasFaultCause, NoFault}
 use Rattle.dfs_host.specs.Host.{HostState, LeavesOnly, Only, bytes_of}
 use Rattle.dfs_host.specs.declared.fault.Fault.{Fault}
@@ -20,7 +20,7 @@ use Rattle.dfs_reply.specs.Text.{text}
 use Rattle.dfs_path.specs.declared.Scope.{Scope}
 use Rattle.dfs_script.specs.Scopes.{is_parts}
 use Rattle.dfs_script.specs.declared.JobWord.{JobWord}
-use Rattle.dfs_view.specs.Layers.{own_runs, selected}
+use Rattle.dfs_view.specs.Layers.{selected}
 use Rattle.dfs_job.specs.declared.settings.Settings.{Settings}
 use Rattle.dfs_job.specs.declared.job.Job.{Job as LiveJob}
 use Rattle.dfs_job.specs.declared.answers.Planned.{Planned}
@@ -40,7 +40,7 @@ use Rattle.dfs_session.proofs.Begun.{HasEnded, begins_still, each_ended, kept_st
 use Rattle.dfs_session.proofs.Faults.{unrefused, each_unrefused, none_past, sound_refused, not_true}
 use Rattle.dfs_session.proofs.Handed.{fault_or, handed_cause}
 use Rattle.dfs_session.proofs.Images.{own_images, read_images}
-use Rattle.dfs_session.proofs.Jobs.{Live, FoundBoth, all_set, all_found, all_remove, any_set, apart_set, apart_remove, both_found, none_unremoved, none_unset, removed_apart, zip_remove, found_set}
+use Rattle.dfs_session.proofs.Jobs.{Live, FoundBoth, all_set, all_found, all_remove, any_set, apart_set, apart_remove, both_found, none_unremoved, none_unset, removed_apart, zip_remove}
 use Rattle.dfs_session.proofs.Kept.{Keeps, bytes_stay, keep_listed, only_keeps, plains_changed, registry_kept, registry_value, settled_stay, unlisted_apart, zip_changed}
 use Rattle.dfs_session.proofs.Values.{same_publications, stands_value}
 use Rattle.dfs_session.proofs.Working.{OnlyMemory, ended_names, on_ok, same_names, worked_by_memory}

@@ -1,5 +1,5 @@
 -- Faults that are handed on.
-use Rattle.std.proofs.Common.{◌≡◌, ◌<◌, ℕ, zero, suc, true, Result, Ok, Err, refl, ap, subst, arith}
+use Rattle.std.proofs.Common.{◌≡◌, ◌<◌, ℕ, zero, suc, Result, Ok, Err, refl, ap, subst, arith}
 use Rattle.dfs_host.specs.Fault.{HasFaultCause, NoFault}
 use Rattle.dfs_host.specs.Host.{HostState}
 use Rattle.dfs_host.specs.declared.fault.Fault.{Fault}

@@ -3,8 +3,8 @@ use Rattle.std.proofs.Common.{◌≡◌, ◌∙◌, ℕ, suc, ◌+◌, Bool, tru
 use Rattle.std.proofs.lemmas.List.{take_more, drop_more, take-append-drop, map-append}
 use Rattle.std.proofs.lemmas.Option.{slice_get_within, get_or_from_slice_get}
 use Rattle.std.specs.Option.{option_copied}
-use Rattle.std.specs.Prelude.{◌&&◌, slice_get, filter_map, find, is_some, is_err, Result, Ok, Err, OnOk}
-use Rattle.std.specs.List.{All, AllByRecursion, list_all, cons_option}
+use Rattle.std.specs.Prelude.{◌&&◌, slice_get, find, is_some, is_err, Result, Ok, Err, OnOk}
+use Rattle.std.specs.List.{All, AllByRecursion, list_all}
 
 abbrev IsNo : Bool → Type 0
 IsNo true = ⊥

@@ -1,5 +1,4 @@
-use Rattle.std.proofs.Common.{◌∙◌, inl, inr, sym, subst}
-use Rattle.dfs_script.specs.Line.{meaning}
+use Rattle.std.proofs.Common.{◌∙◌, sym, subst}
 use Rattle.dfs_session.specs.Session.{step as step_of}
 use Rattle.dfs_session.specs.Worked.{quiet_by}
 use Rattle.dfs_session.proofs.Images.{image_holds}

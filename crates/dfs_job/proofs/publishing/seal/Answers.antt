@@ -86,7 +86,7 @@ pub merge_runs-requires-clause-several : goal.merge_runs-requires-clause-several
 merge_runs-requires-clause-several g c = λ one. absurd (omega (arith, c.if-len-eq1.false, c.len.ensures, one, ap length c.deref-2.ensures.value))
 
 pub returns-then-len-eq1-clause-too_many : goal.returns-then-len-eq1-clause-too_many
-returns-then-len-eq1-clause-too_many g c = λ ls tells are passes. 
+returns-then-len-eq1-clause-too_many g c = λ ls tells are passes.
     absurd
     (passes.merged (omega (
       arith,

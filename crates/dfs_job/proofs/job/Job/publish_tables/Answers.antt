@@ -115,7 +115,7 @@ returns-clause-too_many g c = λ j tells stands passes.
     let ls = (flushed j.layers).closed in
     let now = of.works.added tells refl j.layers stands.layers in
     let are = flushed_sealable mid c.flush.new.layers j file stands.fair now in
-    c.seal.ensures.too_many ls (of.cause.tells ∙ tells) are 
+    c.seal.ensures.too_many ls (of.cause.tells ∙ tells) are
     (subst (λ ks. Passes ks c.args.self.now.settings.parts (map delta ls)) (sym (firsts_flushed (g.H.Host.state c.args.host.now) mid c.args.self.now.layers c.flush.new.layers j.layers stands.layers now.closed of.cut)) passes)
 
 pub returns-in_err-flush-clause-passes : goal.returns-in_err-flush-clause-passes

@@ -11,3 +11,4 @@ pub mod Parting
 pub mod Joins
 pub mod Counts
 pub mod Prefixes
+pub mod Refused

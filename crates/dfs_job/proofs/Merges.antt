@@ -1,10 +1,11 @@
 -- A part of a plan was merged.
 use Rattle.std.proofs.Common.{◌≡◌, ◌≢◌, ◌∙◌, ◌≤◌, ◌<◌, ◌+◌, ◌*◌, ◌⊎◌, ◌↔◌, inl, inr, ℕ, zero, suc, Bool, true, false, if◌then◌else◌, nat_le, List, [], ◌∷◌, ◌++◌, length, map, take, drop, refl, sym, ap, subst, arith}
-use Rattle.std.specs.Prelude.{Option, Some, None, Result, Ok, IsSome, IsSomeAnd, IsTrue, IsFalse, get_or, is_some, slice_get, slice_set}
+use Rattle.std.specs.Prelude.{Option, Some, None, Result, Ok, Err, nat_lt, IsSome, IsSomeAnd, IsTrue, IsFalse, get_or, is_some, slice_get, slice_set}
 use Rattle.std.specs.List.{AllByRecursion, list_all}
-use Rattle.std.proofs.lemmas.Bool.{le-leb, leb-false, leb-true, lt-leb, lt-ltb}
+use Rattle.std.proofs.lemmas.Bool.{le-leb, leb-false, leb-true, lt-leb, lt-ltb, ltb-false, ltb-true}
 use Rattle.std.proofs.lemmas.List.{length-map, take-append-drop}
 use Rattle.dfs_host.specs.Host.{HostState, Only, bytes_of}
+use Rattle.dfs_host.specs.declared.fault.Fault.{Fault}
 use Rattle.dfs_record.specs.declared.Record.{Record}
 use Rattle.dfs_record.specs.Delta.{Delta, delta}
 use Rattle.dfs_record.specs.Records.{Files}
@@ -30,7 +31,7 @@ use Rattle.dfs_job.specs.declared.job.Job.{Job as LiveJob}
 use Rattle.dfs_job.specs.declared.planning.UnderWay.{UnderWay}
 use Rattle.dfs_job.specs.Job.{Job, Plan, basis_covered, covered_changes, joined_as, marked, merged_as, need, part_answer_of, parted_as, with_part}
 use Rattle.dfs_job.specs.Parted.{IsRefusedPart, answer_by}
-use Rattle.dfs_job.specs.Stands.{JobIsFit, JobStands, PlanIsFit, PlanStands, PartsAreStored, PassesWith, PlansAreFit, PlansStand, merged_count, merges_too_many, plan_count, plan_tables, under_way}
+use Rattle.dfs_job.specs.Stands.{IsOneTooMany, JobIsFit, JobStands, PlanIsFit, PlanStands, PartsAreStored, PassesWith, PlansAreFit, PlansStand, merged_count, merges_too_many, plan_count, plan_tables, under_way}
 use Rattle.dfs_job.proofs.Apart.{agree_but, basis_apart, basis_still_lies}
 use Rattle.dfs_job.proofs.Keeping.{earlier_apart, too_many_short, within_need}
 use Rattle.dfs_job.proofs.Plans.{covered_counted, covered_sources}
@@ -278,16 +279,29 @@ module _ (old : LiveJob) (u : UnderWay) (fit : JobIsFit old) (under : old.plan �
           | inr many ↦ overfull_short old u fit under host j p stands plan many
         ]
 
-    -- with the part its run would pass the most tables
-    pub part_passes : (part : ℕ) {refused : ℕ} → ((ds : List Delta) → CompactionStands (bytes_of host) old.layers.log.file u.compaction ds → (0 < refused) ⊎ IsPastWith u.compaction ds part) → (0 < refused) ⊎ PassesWith old.plan j.plan j part
-    part_passes part past = elim (past (covered_changes held.0 j) (compaction_stands old u fit under host j held.0 stands held.1)) [
+    -- with the part its run would pass the most tables, where the call met a fault, so that the part is one to be merged
+    pub part_passes : (part : ℕ) (result : Result Parted Fault) (fault : Fault) {refused : ℕ} → result ≡ Err fault → (result ≡ Ok parted.Range) ↔ (u.compaction.parts ≤ part) → (result ≡ Ok parted.Done) ↔ IsMerged u.compaction part
+        → ((ds : List Delta) → CompactionStands (bytes_of host) old.layers.log.file u.compaction ds → (0 < refused) ⊎ IsPastWith u.compaction ds part) → (0 < refused) ⊎ PassesWith old.plan j.plan j part
+    part_passes part result fault was range done past = elim (past (covered_changes held.0 j) (compaction_stands old u fit under host j held.0 stands held.1)) [
       | inl some ↦ inl some
-      | inr many ↦ inr (subst (λ o. PassesWith o j.plan j part) (sym under) (subst (λ q. PassesWith (Some u) q j part) (sym held.1) many))
+      | inr many ↦ inr (subst (λ o. PassesWith o j.plan j part) (sym under) (subst (λ q. PassesWith (Some u) q j part) (sym held.1) (record { inside = inside (nat_lt part u.compaction.parts) refl; left = λ is. absurd (cc (done.1 is, was)); past = many })))
     ]
+      where
+        inside : (b : Bool) → nat_lt part u.compaction.parts ≡ b → part < u.compaction.parts
+        inside true t = ltb-true part u.compaction.parts t
+        inside false t = absurd (cc (range.1 (ltb-false part u.compaction.parts t), was))
 
-    pub part_passed : (part : ℕ) (P : Type 0) → ((ds : List Delta) → CompactionStands (bytes_of host) old.layers.log.file u.compaction ds → IsPastWith u.compaction ds part → P) → PassesWith old.plan j.plan j part → P
-    part_passed part P past many =
-        past (covered_changes held.0 j) (compaction_stands old u fit under host j held.0 stands held.1) (subst (λ q. PassesWith (Some u) q j part) held.1 (subst (λ o. PassesWith o j.plan j part) under many))
+    pub part_never : (part : ℕ) (a : Parted) (result : Result Parted Fault) → result ≡ Ok a → (result ≡ Ok parted.Range) ↔ (u.compaction.parts ≤ part) → (result ≡ Ok parted.Done) ↔ IsMerged u.compaction part
+        → ((ds : List Delta) → CompactionStands (bytes_of host) old.layers.log.file u.compaction ds → IsPastWith u.compaction ds part → IsRefusal a) → PassesWith old.plan j.plan j part → ⊥
+    part_never part a result was range done refused many =
+        let too_many : IsOneTooMany u.compaction (covered_changes held.0 j) part = subst (λ q. PassesWith (Some u) q j part) held.1 (subst (λ o. PassesWith o j.plan j part) under many) in
+        by a was (refused (covered_changes held.0 j) (compaction_stands old u fit under host j held.0 stands held.1) too_many.past) too_many
+      where
+        by : (a : Parted) → result ≡ Ok a → IsRefusal a → IsOneTooMany u.compaction (covered_changes held.0 j) part → ⊥
+        by parted.Merged was is too_many = is
+        by parted.Last was is too_many = is
+        by parted.Range was is too_many = absurd (omega (arith, range.0 was, too_many.inside))
+        by parted.Done was is too_many = too_many.left (done.0 was)
 
     module _ (c_after : CompactionState) (part : ℕ) {E : Type 0} (result : Result Parted E) (parts_of : (result ≡ Ok parted.Range) ↔ (u.compaction.parts ≤ part)) (merged_of : (result ≡ Ok parted.Done) ↔ IsMerged u.compaction part)
         (last : result ≡ Ok parted.Last → AreMerged c_after) (some : result ≡ Ok parted.Merged → AreMerged c_after → ⊥) where
@@ -344,9 +358,65 @@ pub joined_marked : (j : Job) (part : ℕ) (q : Option Plan) → j.plan ≡ q �
 joined_marked j part None e = λ i. record j { plan = sym e i }
 joined_marked j part (Some p) e = refl
 
--- a part that is refused answers so
-pub refused_part : (a : Parted) → IsRefusal a → IsRefusedPart (answer_by a)
-refused_part parted.Merged is = is
-refused_part parted.Last is = is
-refused_part parted.Range is = tt
-refused_part parted.Done is = tt
+-- ---- the answer to a part, on every host
+
+-- what the job answers where the compaction answers this
+abbrev pub answered : Result Parted Fault → Result JobPart Fault
+answered (Ok a) = Ok (answer_by a)
+answered (Err fault) = Err fault
+
+module _ (result : Result Parted Fault) (mine : Result JobPart Fault) (is : mine ≡ answered result) where
+  range_answered : (mine ≡ Ok Range) ↔ (result ≡ Ok parted.Range)
+  range_answered = by result is
+    where
+      by : (r : Result Parted Fault) → mine ≡ answered r → (mine ≡ Ok Range) ↔ (r ≡ Ok parted.Range)
+      by (Ok parted.Merged) e = ((λ so. absurd (cc (e, so))), (λ so. absurd (cc so)))
+      by (Ok parted.Last) e = ((λ so. absurd (cc (e, so))), (λ so. absurd (cc so)))
+      by (Ok parted.Range) e = ((λ so. refl), (λ so. e))
+      by (Ok parted.Done) e = ((λ so. absurd (cc (e, so))), (λ so. absurd (cc so)))
+      by (Err fault) e = ((λ so. absurd (cc (e, so))), (λ so. absurd (cc so)))
+
+  done_answered : (mine ≡ Ok Done) ↔ (result ≡ Ok parted.Done)
+  done_answered = by result is
+    where
+      by : (r : Result Parted Fault) → mine ≡ answered r → (mine ≡ Ok Done) ↔ (r ≡ Ok parted.Done)
+      by (Ok parted.Merged) e = ((λ so. absurd (cc (e, so))), (λ so. absurd (cc so)))
+      by (Ok parted.Last) e = ((λ so. absurd (cc (e, so))), (λ so. absurd (cc so)))
+      by (Ok parted.Range) e = ((λ so. absurd (cc (e, so))), (λ so. absurd (cc so)))
+      by (Ok parted.Done) e = ((λ so. refl), (λ so. e))
+      by (Err fault) e = ((λ so. absurd (cc (e, so))), (λ so. absurd (cc so)))
+
+  -- of the plan under way
+  module _ (plan : Option UnderWay) (u : UnderWay) (under : plan ≡ Some u) (part : ℕ) where
+    pub range_of_plan : (result ≡ Ok parted.Range) ↔ (u.compaction.parts ≤ part) → (mine ≡ Ok Range) ↔ IsSomeAnd plan (λ x. x.compaction.parts ≤ part)
+    range_of_plan range = subst (λ (o : Option UnderWay). (mine ≡ Ok Range) ↔ IsSomeAnd o (λ x. x.compaction.parts ≤ part)) (sym under) ((λ so. range.0 (range_answered.0 so)), (λ le. range_answered.1 (range.1 le)))
+
+    pub done_of_plan : (result ≡ Ok parted.Done) ↔ IsMerged u.compaction part → (mine ≡ Ok Done) ↔ IsSomeAnd plan (λ x. IsMerged x.compaction part)
+    done_of_plan done = subst (λ (o : Option UnderWay). (mine ≡ Ok Done) ↔ IsSomeAnd o (λ x. IsMerged x.compaction part)) (sym under) ((λ so. done.0 (done_answered.0 so)), (λ was. done_answered.1 (done.1 was)))
+
+  pub some_plan : mine ≡ Ok NoPlan → ⊥
+  some_plan = by result is
+    where
+      by : (r : Result Parted Fault) → mine ≡ answered r → mine ≡ Ok NoPlan → ⊥
+      by (Ok parted.Merged) e so = absurd (cc (e, so))
+      by (Ok parted.Last) e so = absurd (cc (e, so))
+      by (Ok parted.Range) e so = absurd (cc (e, so))
+      by (Ok parted.Done) e so = absurd (cc (e, so))
+      by (Err fault) e so = absurd (cc (e, so))
+
+-- a part that is refused changes nothing
+pub refused_stays : (old : LiveJob) (u : UnderWay) (c : CompactionState) (log : LogState) (a : Parted) {host host_after : HostState} → old.plan ≡ Some u → IsFalse old.spent → (IsRefusal a → (c ≡ u.compaction) × (host_after ≡ host) × (log ≡ old.layers.log)) → IsRefusedPart (answer_by a)
+    → (with_state old log u c ≡ old) × (host_after ≡ host)
+refused_stays old u c log a {host} {host_after} under live refused is = by a refused is
+  where
+    same : (c ≡ u.compaction) × (host_after ≡ host) × (log ≡ old.layers.log) → (with_state old log u c ≡ old) × (host_after ≡ host)
+    same so = (
+      ap (λ (s : CompactionState). with_state old log u s) so.0 ∙ ap (λ (l : LogState). with_state old l u u.compaction) so.2 ∙ ap (λ (o : Option UnderWay). record old { plan = o; spent = false }) (sym under) ∙ ap (λ (b : Bool). record old { spent = b }) (sym live),
+      so.1,
+    )
+
+    by : (a : Parted) → (IsRefusal a → (c ≡ u.compaction) × (host_after ≡ host) × (log ≡ old.layers.log)) → IsRefusedPart (answer_by a) → (with_state old log u c ≡ old) × (host_after ≡ host)
+    by parted.Merged refused is = absurd is
+    by parted.Last refused is = absurd is
+    by parted.Range refused is = same (refused tt)
+    by parted.Done refused is = same (refused tt)

@@ -3,6 +3,8 @@ use Rattle.std.specs.Prelude.{nat_lt, cond, List, [], ◌∷◌, length}
 use Rattle.dfs_table.specs.declared.run.Run.{Run}
 use Rattle.dfs_compact.specs.declared.compaction.Parted.{Parted}
 use Rattle.dfs_compact.specs.declared.compaction.Parted.TheVariants as parted
+use Rattle.dfs_job.specs.declared.answers.Planned.{Planned}
+use Rattle.dfs_job.specs.declared.answers.Planned.TheVariants.{Made, Busy, Full}
 use Rattle.dfs_job.specs.declared.answers.JobPart.{JobPart}
 use Rattle.dfs_job.specs.declared.answers.JobPart.TheVariants.{Merged, Last, NoPlan, Range, Done}
 
@@ -19,6 +21,12 @@ IsRefusedPart Last = ⊥
 IsRefusedPart NoPlan = Unit {0}
 IsRefusedPart Range = Unit {0}
 IsRefusedPart Done = Unit {0}
+
+-- there is a plan already, or the job made as many as it may
+abbrev pub IsRefusedPlan : Planned → Type 0
+IsRefusedPlan Made = ⊥
+IsRefusedPlan Busy = Unit {0}
+IsRefusedPlan Full = Unit {0}
 
 -- the run, where it has a record
 abbrev pub placed_run : Run → List Run

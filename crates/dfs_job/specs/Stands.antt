@@ -14,7 +14,7 @@ use Rattle.dfs_table.specs.Tables.{all_fences}
 use Rattle.dfs_table.specs.Writer.{AreIn}
 use Rattle.dfs_table.specs.declared.run.Run.{Run}
 use Rattle.dfs_plan.specs.Parts.{AreSorted}
-use Rattle.dfs_compact.specs.Compaction.{AreMerged, CompactionState, IsPastWith, part_of}
+use Rattle.dfs_compact.specs.Compaction.{AreMerged, CompactionState, IsMerged, IsPastWith, part_of}
 use Rattle.dfs_compact.specs.Parts.{count_all, first_keys, tables_below, tables_of}
 use Rattle.dfs_change.specs.declared.change.Change.{Change}
 use Rattle.dfs_change.specs.Identities.{AreFit as AreOfJob}
@@ -144,11 +144,17 @@ abbrev pub plan_count : Option UnderWay → ℕ
 plan_count None = 0
 plan_count (Some u) = count_all u.compaction.sources
 
--- With this part, the run of all parts of the plan under way would pass 131,072 tables.
+-- The part is one that is to be merged, and with it the run of all parts would pass 131,072 tables.
+pub record IsOneTooMany (c : CompactionState) (ds : List Delta) (part : ℕ) : Type 0 where
+  pub inside : part < c.parts
+  pub left : ¬ (IsMerged c part)
+  pub past : IsPastWith c ds part
+
+-- the same of a part of the plan under way
 abbrev pub PassesWith : Option UnderWay → Option Plan → Job → ℕ → Type 0
 PassesWith None q j part = ⊥
 PassesWith (Some u) None j part = ⊥
-PassesWith (Some u) (Some p) j part = IsPastWith u.compaction (covered_changes p j) part
+PassesWith (Some u) (Some p) j part = IsOneTooMany u.compaction (covered_changes p j) part
 
 -- the first keys of the blocks of its layers, once the open one is closed
 abbrev pub flushed_firsts : LiveJob → Job → List Key

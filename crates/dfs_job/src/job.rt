@@ -163,4 +163,7 @@ impl Job {
             records,
         }
     }
+
+    /// Gives the job up. Nothing is written, and its log stays as it is.
+    pub fn drop_job(self) {}
 }

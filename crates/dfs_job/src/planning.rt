@@ -29,12 +29,13 @@ pub struct UnderWay {
 }
 
 impl Job {
-    ghost use Rattle.std.specs.Prelude.{◌≡◌, ◌≤◌, ◌<◌, ◌+◌, ◌*◌, ◌⊎◌, ◌↔◌, [], length, None, IsSome, IsFalse, IsTrue, IfOk, IfErr, IfSome, OnOk, OnErr, IsErrOf};
+    ghost use Rattle.std.specs.Prelude.{◌≡◌, ◌≤◌, ◌<◌, ◌+◌, ◌*◌, ◌⊎◌, ◌↔◌, [], length, None, Ok, IsSome, IsSomeAnd, IsFalse, IsTrue, IfOk, IfErr, IfSome, OnOk, OnErr, IsErrOf};
     ghost use Rattle.dfs_host.specs.Fault.{HasFaultCause};
     ghost use Rattle.dfs_host.specs.Host.{HostState, Told, Only};
     ghost use Rattle.dfs_view.specs.Layers.{Stand};
     ghost use Rattle.dfs_job.specs.Job.{Job as PlainJob, after_part, after_plan, joined_as, merged_as, need, part_answer, plan_answer, with_plan};
-    ghost use Rattle.dfs_job.specs.Parted.{IsRefusedPart};
+    ghost use Rattle.dfs_compact.specs.Compaction.{IsMerged};
+    ghost use Rattle.dfs_job.specs.Parted.{IsRefusedPart, IsRefusedPlan};
     ghost use Rattle.dfs_job.specs.Stands.{IsWholePlan, JobIsFit, JobIsSound, JobStands, PassesWith, merges_too_many, plan_count};
 
     /// Begins a plan over the closed layers, with scope all over the selected change sets as well. It closes the open layer. Without
@@ -51,6 +52,10 @@ impl Job {
 
         ensures sound { OnOk result (JobIsSound (H.state host.new) self.new) }
         ensures answer { (j : PlainJob) → Told (H.state host.old) (JobStands (H.state host.old) self.old j → IfOk result (λ answer. answer ≡ plan_answer j)) }
+        // Whether a plan is refused, on every host. One that is changes nothing.
+        ensures busy { (result ≡ Ok Planned.Busy) ↔ IsSome self.old.plan }
+        ensures most { (result ≡ Ok Planned.Full) ↔ ((self.old.plan ≡ None) × (self.old.plans ≡ 65535)) }
+        ensures refused { IfOk result (λ answer. IsRefusedPlan answer → (self.new ≡ self.old) × (H.state host.new ≡ H.state host.old)) }
         ensures stands { (j : PlainJob) → Told (H.state host.old) (JobStands (H.state host.old) self.old j → OnOk result (JobStands (H.state host.new) self.new (after_plan j scope parts))) }
         ensures number { self.new.ids ≡ self.old.ids }
         ensures settings { self.new.settings ≡ self.old.settings }
@@ -123,6 +128,11 @@ impl Job {
 
         ensures sound { OnOk result (JobIsSound (H.state host.new) self.new) }
         ensures answer { (j : PlainJob) → Told (H.state host.old) (JobStands (H.state host.old) self.old j → IfOk result (λ answer. answer ≡ part_answer j part)) }
+        // Whether a part is refused, on every host. One that is changes nothing.
+        ensures no_plan { (result ≡ Ok JobPart.NoPlan) ↔ (self.old.plan ≡ None) }
+        ensures range { (result ≡ Ok JobPart.Range) ↔ IsSomeAnd self.old.plan (λ u. u.compaction.parts ≤ part) }
+        ensures done { (result ≡ Ok JobPart.Done) ↔ IsSomeAnd self.old.plan (λ u. IsMerged u.compaction part) }
+        ensures refused { IfOk result (λ answer. IsRefusedPart answer → (self.new ≡ self.old) × (H.state host.new ≡ H.state host.old)) }
         ensures stands { (j : PlainJob) → Told (H.state host.old) (JobStands (H.state host.old) self.old j → OnOk result (JobStands (H.state host.new) self.new (after_part j part))) }
         ensures number { self.new.ids ≡ self.old.ids }
         ensures settings { self.new.settings ≡ self.old.settings }
@@ -131,7 +141,7 @@ impl Job {
         // `LogFull` exactly where the log refused a piece or, with the part, the run of the plan would pass 131,072 tables, but for want
         // of memory and a disk fault; what bounds the tables by counts, on every host, is `full`.
         ensures passes { (j : PlainJob) → Told (H.state host.old) (JobStands (H.state host.old) self.old j → IsErrOf result Fault.LogFull → (0 < self.new.layers.log.refused) ⊎ PassesWith self.old.plan j.plan j part) }
-        ensures too_many { (j : PlainJob) → Told (H.state host.old) (JobStands (H.state host.old) self.old j → PassesWith self.old.plan j.plan j part → IfOk result IsRefusedPart) }
+        ensures too_many { (j : PlainJob) → Told (H.state host.old) (JobStands (H.state host.old) self.old j → PassesWith self.old.plan j.plan j part → OnOk result ⊥) }
         ensures full { IsErrOf result Fault.LogFull → (0 < self.new.layers.log.refused) ⊎ IsTrue (merges_too_many self.old) }
         ensures refuses { 0 < self.new.layers.log.refused → IsErrOf result Fault.LogFull }
         ensures short { (j : PlainJob) → Told (H.state host.old) (JobStands (H.state host.old) self.old j → IsErrOf result Fault.LogFull → j.settings.log_bytes < need j) }
@@ -163,13 +173,17 @@ impl Job {
 
         ensures fit { OnOk result (JobIsFit self.new) }
         ensures answer { (j : PlainJob) → Told (H.state host.old) (JobStands (H.state host.old) self.old j → IfOk result (λ answer. answer ≡ part_answer j part)) }
+        ensures planned { result ≡ Ok JobPart.NoPlan → ⊥ }
+        ensures range { (result ≡ Ok JobPart.Range) ↔ IsSomeAnd self.old.plan (λ u. u.compaction.parts ≤ part) }
+        ensures done { (result ≡ Ok JobPart.Done) ↔ IsSomeAnd self.old.plan (λ u. IsMerged u.compaction part) }
+        ensures refused { IfOk result (λ answer. IsRefusedPart answer → (self.new ≡ self.old) × (H.state host.new ≡ H.state host.old)) }
         ensures stands { (j : PlainJob) → Told (H.state host.old) (JobStands (H.state host.old) self.old j → IfOk result (λ answer. JobStands (H.state host.new) self.new (merged_as answer j part))) }
         ensures last { IfOk result (λ answer. answer ≡ JobPart.Last → IsWholePlan self.new.plan) }
         ensures number { self.new.ids ≡ self.old.ids }
         ensures settings { self.new.settings ≡ self.old.settings }
         ensures basis { self.new.layers.basis.items ≡ self.old.layers.basis.items }
         ensures passes { (j : PlainJob) → Told (H.state host.old) (JobStands (H.state host.old) self.old j → IsErrOf result Fault.LogFull → (0 < self.new.layers.log.refused) ⊎ PassesWith self.old.plan j.plan j part) }
-        ensures too_many { (j : PlainJob) → Told (H.state host.old) (JobStands (H.state host.old) self.old j → PassesWith self.old.plan j.plan j part → IfOk result IsRefusedPart) }
+        ensures too_many { (j : PlainJob) → Told (H.state host.old) (JobStands (H.state host.old) self.old j → PassesWith self.old.plan j.plan j part → OnOk result ⊥) }
         ensures full { IsErrOf result Fault.LogFull → (0 < self.new.layers.log.refused) ⊎ IsTrue (merges_too_many self.old) }
         ensures refuses { 0 < self.new.layers.log.refused → IsErrOf result Fault.LogFull }
         ensures short { (j : PlainJob) → Told (H.state host.old) (JobStands (H.state host.old) self.old j → IsErrOf result Fault.LogFull → j.settings.log_bytes < need j) }

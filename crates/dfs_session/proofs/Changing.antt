@@ -6,7 +6,7 @@ use Rattle.std.specs.Prelude.{◌&&◌, IfOk, IfNone, IfSome, OnOk, IsErrOf, IsT
 use Rattle.std.specs.BTreeMap.{BTreeMap, is_at}
 use Rattle.std.specs.Global.{Vec}
 use Rattle.std.specs.List.{AllByRecursion, AllZip, list_any}
-use Rattle.std.specs.Map.{set_value, remove_entry}
+use Rattle.std.specs.Map.{lookup, set_value, remove_entry}
 use Rattle.dfs_host.specs.Fault.{HasFaultCause, NoFault}
 use Rattle.dfs_host.specs.Host.{HostState, LeavesOnly, Only, bytes_of}
 use Rattle.dfs_host.specs.declared.fault.Fault.{Fault}
@@ -35,12 +35,12 @@ use Rattle.dfs_session.specs.Kept.{IsInside, IsOwn, begin_in}
 use Rattle.dfs_session.specs.Session.{Registry, Session, Step, live_job, of_live, ends, word_cmp}
 use Rattle.dfs_session.specs.Sound.{AreApart, HasItsBegin, IsEntry, IsListed, IsLive, IsSound, NoneHas, PlainOf, jobs_of, listed_in, live_in, number_of}
 use Rattle.dfs_session.specs.Stands.{EntryStands, LeavesValue, Stands}
-use Rattle.dfs_session.specs.Worked.{AreNamed, IsFullWhere, IsPast, IsShort, IsWorked, PartPasses, PublicationPasses, Work, has_refused, job_is, plain, with_plan_made}
+use Rattle.dfs_session.specs.Worked.{AreNamed, IsFullWhere, IsPast, IsShort, IsWorked, PartPasses, PublicationPasses, Work, has_refused, job_is, plain, refused_of, with_plan_made}
 use Rattle.dfs_session.proofs.Begun.{HasEnded, begins_still, each_ended, kept_still, still_none}
 use Rattle.dfs_session.proofs.Faults.{unrefused, each_unrefused, none_past, sound_refused, not_true}
 use Rattle.dfs_session.proofs.Handed.{fault_or, handed_cause}
 use Rattle.dfs_session.proofs.Images.{own_images, read_images}
-use Rattle.dfs_session.proofs.Jobs.{Live, FoundBoth, all_set, all_found, all_remove, any_set, apart_set, apart_remove, both_found, none_unremoved, none_unset, removed_apart, zip_remove}
+use Rattle.dfs_session.proofs.Jobs.{found_set, Live, FoundBoth, all_set, all_found, all_remove, any_set, apart_set, apart_remove, both_found, none_unremoved, none_unset, removed_apart, zip_remove}
 use Rattle.dfs_session.proofs.Kept.{Keeps, bytes_stay, keep_listed, only_keeps, plains_changed, registry_kept, registry_value, settled_stay, unlisted_apart, zip_changed}
 use Rattle.dfs_session.proofs.Values.{same_publications, stands_value}
 use Rattle.dfs_session.proofs.Working.{OnlyMemory, ended_names, on_ok, same_names, worked_by_memory}
@@ -185,9 +185,14 @@ module _ (before after : HostState) (session : LiveSession) (word : JobWord) (li
       now_refused : 0 < new.layers.log.refused → has_refused changed ≡ true
       now_refused some = ap (λ (es : Live). list_any (λ e. nat_lt 0 e.1.layers.log.refused) es) set ∙ any_set test (jobs_of session) live new found (lt-ltb 0 new.layers.log.refused some)
 
+      log_refused : 0 < new.layers.log.refused → IsTrue (refused_of (jobs_of changed) word)
+      log_refused some =
+          let now : live_in changed word ≡ Some new = ap (lookup test) set ∙ found_set test (jobs_of session) live new found in
+          subst (λ (o : Option LiveJob). IsTrue (job_is (λ j. nat_lt 0 j.layers.log.refused) o)) (sym now) (lt-ltb 0 new.layers.log.refused some)
+
       -- `LogFull` where the job's log refused a piece, and else only where a run of it may need too many tables
-      pub full_with : {T : Type 0} (result : Result T Fault) (many : Bool) → (IsErrOf result LogFull → (0 < new.layers.log.refused) ⊎ IsTrue many) → IsPast new → (0 < new.layers.log.refused → IsErrOf result LogFull) → IsFullWhere result many changed
-      full_with result many only past refused = record { past = subst (λ (es : Live). AllByRecursion (λ e. IsPast e.1) es) (sym set) (all_set IsPast test (jobs_of session) new past (none_past (jobs_of session) (sound_refused session sound.memory))); only = λ is. elim (only is) [ inl holds ↦ inl (now_refused holds) | inr passes ↦ inr passes ]; refused = λ holds. refused (some holds) }
+      pub full_with : {T : Type 0} (result : Result T Fault) (many : Bool) → (IsErrOf result LogFull → (0 < new.layers.log.refused) ⊎ IsTrue many) → IsPast new → (0 < new.layers.log.refused → IsErrOf result LogFull) → IsFullWhere result (refused_of (jobs_of changed) word) many changed
+      full_with result many only past refused = record { past = subst (λ (es : Live). AllByRecursion (λ e. IsPast e.1) es) (sym set) (all_set IsPast test (jobs_of session) new past (none_past (jobs_of session) (sound_refused session sound.memory))); only = λ is. elim (only is) [ inl holds ↦ inl (log_refused holds) | inr passes ↦ inr passes ]; refused = λ holds. refused (some holds) }
         where
           some : IsTrue (has_refused changed) → 0 < new.layers.log.refused
           some holds = by new.layers.log.refused refl
@@ -250,10 +255,10 @@ module _ (before after : HostState) (session : LiveSession) (word : JobWord) (li
       }
 
       -- a call on the job that met a fault
-      pub fault_worked : {T : Type 0} (work : Work) (fault : Fault) → HasFaultCause {T = T} before after (Err fault) → (IsErrOf {T = T} (Err fault) LogFull → (0 < new.layers.log.refused) ⊎ IsTrue (work.many session)) → IsPast new → (0 < new.layers.log.refused → IsErrOf {T = T} (Err fault) LogFull)
+      pub fault_worked : {T : Type 0} (work : Work) (fault : Fault) → work.log (jobs_of changed) ≡ refused_of (jobs_of changed) word → HasFaultCause {T = T} before after (Err fault) → (IsErrOf {T = T} (Err fault) LogFull → (0 < new.layers.log.refused) ⊎ IsTrue (work.many session)) → IsPast new → (0 < new.layers.log.refused → IsErrOf {T = T} (Err fault) LogFull)
           → ((s : Session) → IsTrue before.tells → Stands before session s → fault ≡ LogFull → IsShort (work.job s))
           → ((s : Session) → IsTrue before.tells → Stands before session s → fault ≡ LogFull → (0 < new.layers.log.refused) ⊎ work.passes s session) → IsWorked work before after session changed (Err fault)
-      fault_worked {T} work fault cause full past refused short passes = record {
+      fault_worked {T} work fault logged cause full past refused short passes = record {
         sound = tt;
         settings = tt;
         reply = λ s tells stands. tt;
@@ -262,8 +267,8 @@ module _ (before after : HostState) (session : LiveSession) (word : JobWord) (li
         images = λ s tells stands. own_job_images s (work.step s).session.registry tells stands;
         silent = silent_only only;
         cause = handed_cause fault (none_yet before) cause;
-        full = full_with (Err fault) (work.many session) (λ is. full (ap Err (ap fault_or is))) past (λ some. ap Err (ap (fault_or {T = T}) (refused some)));
-        passes = λ s tells stands is. elim (passes s tells stands (ap fault_or is)) [ inl holds ↦ inl (now_refused holds) | inr many ↦ inr many ];
+        full = subst (λ (b : Bool). IsFullWhere {T = Vec ℕ} (Err fault) b (work.many session) changed) (sym logged) (full_with (Err fault) (work.many session) (λ is. full (ap Err (ap fault_or is))) past (λ some. ap Err (ap (fault_or {T = T}) (refused some))));
+        passes = λ s tells stands is. elim (passes s tells stands (ap fault_or is)) [ inl holds ↦ inl (logged ∙ log_refused holds) | inr many ↦ inr many ];
         short = λ s tells stands is. short s tells stands (ap fault_or is);
         reads = λ quiet. tt;
         names = tt;

@@ -28,7 +28,7 @@ use Rattle.dfs_session.specs.Session.{Session, Step, Registry, Publication, live
 use Rattle.dfs_session.specs.Sound.{IsSound, jobs_of, listed_in, live_in}
 use Rattle.dfs_session.specs.Stands.{Stands, LeavesValue}
 use Rattle.dfs_job.specs.declared.settings.Settings.{Settings}
-use Rattle.dfs_session.specs.Worked.{AreNamed, IsFullWhere, IsShort, IsWorked, Work}
+use Rattle.dfs_session.specs.Worked.{IsError, AreNamed, IsFullWhere, IsShort, IsWorked, Work}
 use Rattle.dfs_session.proofs.Changing.{Found}
 use Rattle.dfs_session.proofs.Faults.{sound_refused, full_by}
 use Rattle.dfs_session.proofs.Images.{images_on, read_images}
@@ -104,12 +104,22 @@ module _ (host : HostState) (session : LiveSession) (s : Session) (w : JobWord) 
       → begins_with s w (chosen s.registry names) ≡ begins_unless found s w (publications_of (bytes_of host) (chosen_in (listed_in session) names))
   begins_chosen found is = ap (begins_with s w) chosen_are ∙ ap (λ (o : Option Publication). begins_unless o s w (publications_of (bytes_of host) (chosen_in (listed_in session) names))) is
 
+-- a begin over listed names is no refusal but for a damaged snapshot
+pub begins_no_error : (host : HostState) (session : LiveSession) (s : Session) (w : JobWord) (names : List SnapName) → Stands host session s → false ≡ is_some (live_in session w) → false ≡ (nat_le 64 (length (jobs_of session)) || nat_le 4294967294 session.greatest)
+    → true ≡ list_all (is_listed (listed_in session)) names → IsError (begins s w names).reply → ⊥
+begins_no_error host session s w names stands is_live is_full_so is_listed_so is =
+    by (find is_damaged (chosen s.registry names)) (subst (λ (t : Step). IsError t.reply) (begins_as host session s w names stands false false true is_live is_full_so is_listed_so) is)
+  where
+    by : (o : Option Publication) → IsError (begins_unless o s w (chosen s.registry names)).reply → ⊥
+    by None error = error
+    by (Some p) error = error
+
 -- ---- calls that only read, and then a line's work
 
 pub after_reads : (before mid after : HostState) (session new : LiveSession) (does did : Work) (result : Result (Vec ℕ) Fault) → IsSound before session → OnlyReads before mid → NoFault before mid
     → ((s : Session) → IsTrue before.tells → Stands before session s → does.step s ≡ did.step s) → ((s : Session) → does.job s ≡ did.job s) → ((t : Settings) → does.settings t ≡ did.settings t) → IsWorked did mid after session new result
-    → (does.quiet session → OnOk result (after.reads ≡ before.reads)) → does.names ≡ did.names → does.many session ≡ did.many session → ((s : Session) → did.passes s session → does.passes s session) → IsWorked does before after session new result
-after_reads before mid after session new does did result sound only none same job settings worked reads named many passes =
+    → (does.quiet session → OnOk result (after.reads ≡ before.reads)) → does.names ≡ did.names → does.many session ≡ did.many session → ((s : Session) → IsTrue before.tells → Stands before session s → did.passes s session → does.passes s session) → does.log (jobs_of new) ≡ did.log (jobs_of new) → IsWorked does before after session new result
+after_reads before mid after session new does did result sound only none same job settings worked reads named many passes logged =
     let stands_mid : (s : Session) → IsTrue before.tells → Stands before session s → Stands mid session s = λ s tells stands. stands_read before mid session s only tells stands in
     record {
       sound = worked.sound;
@@ -122,8 +132,8 @@ after_reads before mid after session new does did result sound only none same jo
           (subst (λ (t : Step). LeavesOnly (HoldsEither s.registry t.session.registry) mid after) (sym (same s tells stands)) (worked.images s (only.tells ∙ tells) (stands_mid s tells stands)));
       silent = silent_on (silent_reads only) worked.silent;
       cause = cause_of_last none worked.cause result (λ fault is. is) (λ is. is);
-      full = subst (λ (b : Bool). IsFullWhere result b new) (sym many) worked.full;
-      passes = λ s tells stands is. elim (worked.passes s (only.tells ∙ tells) (stands_mid s tells stands) is) [ inl holds ↦ inl holds | inr many ↦ inr (passes s many) ];
+      full = subst (λ (b : Bool). IsFullWhere result b (does.many session) new) (sym logged) (subst (λ (b : Bool). IsFullWhere result (did.log (jobs_of new)) b new) (sym many) worked.full);
+      passes = λ s tells stands is. elim (worked.passes s (only.tells ∙ tells) (stands_mid s tells stands) is) [ inl holds ↦ inl (logged ∙ holds) | inr many ↦ inr (passes s tells stands many) ];
       short = λ s tells stands is. subst IsShort (sym (job s)) (worked.short s (only.tells ∙ tells) (stands_mid s tells stands) is);
       reads = reads;
       names = subst (λ (names : Option (List SnapName)). OnOk result (AreNamed names session new)) (sym named) worked.names;
@@ -175,6 +185,12 @@ pub publishes_as_anew : (host : HostState) (session : LiveSession) (s : Session)
     → false ≡ nat_le 4096 (length (listed_in session)) → publishes_for s w name ≡ of_job s w (λ j. publishes_anew s w j name)
 publishes_as_anew host session s w live name stands f is_taken is_full_so =
     publishes_as host session s w live name stands f false false is_taken is_full_so ∙ sym (ap (λ (o : Option Job). of_live o s (λ j. publishes_anew s w j name)) f.found)
+
+-- which is no refusal
+pub not_refused : {host : HostState} (session : LiveSession) (s : Session) (w : JobWord) {live : LiveJob} (name : SnapName) → Stands host session s → Found host s w live → false ≡ is_listed (listed_in session) name → false ≡ nat_le 4096 (length (listed_in session))
+    → IsError (publishes_for s w name).reply → ⊥
+not_refused {host} session s w {live} name stands f is_taken is_full_so is =
+    subst IsError (ap (λ (t : Step). t.reply) (publishes_as_anew host session s w live name stands f is_taken is_full_so) ∙ ap (λ (o : Option Job). (of_live o s (λ j. publishes_anew s w j name)).reply) f.found) is
 
 -- a name that is found is listed, and another one is not
 pub any_found : (name : SnapName) (ls : List Listed) → lists_name ls name ≡ is_listed ls name

@@ -53,5 +53,5 @@ none_past (e ∷ es) none =
     (λ some. absurd (true≢false (sym (lt-ltb 0 e.1.layers.log.refused some) ∙ parts.0)), none_past es parts.1)
 
 -- where no log refused a piece, no answer is that a log is full
-pub full_by : {T : Type 0} (result : Result T Fault) (many : Bool) (session : LiveSession) → (IsErrOf result LogFull → ⊥) → has_refused session ≡ false → IsFullWhere result many session
+pub full_by : {T : Type 0} (result : Result T Fault) {logged : Bool} (many : Bool) (session : LiveSession) → (IsErrOf result LogFull → ⊥) → has_refused session ≡ false → IsFullWhere result logged many session
 full_by result many session never none = record { only = λ is. absurd (never is); past = none_past (jobs_of session) none; refused = λ holds. absurd (not_true (has_refused session) none holds) }

@@ -7,9 +7,16 @@ use Rattle.dfs_host.specs.declared.fault.Fault.TheVariants.{NoMemory, Disk, LogF
 use Rattle.dfs_host.proofs.Causes.{cause_of_last}
 use Rattle.dfs_job.specs.declared.answers.JobPart.{JobPart}
 use Rattle.dfs_job.specs.declared.answers.JobPart.TheVariants.{Merged, Last, NoPlan, Range, Done}
-use Rattle.dfs_job.specs.Parted.{IsRefusedPart}
-use Rattle.dfs_session.specs.Session.{told_of_part}
-use Rattle.dfs_session.specs.Worked.{IsRefused}
+use Rattle.dfs_job.specs.declared.answers.Planned.{Planned}
+use Rattle.dfs_job.specs.declared.answers.Planned.TheVariants.{Made, Busy}
+use Rattle.dfs_job.specs.declared.answers.Planned.TheVariants as planned
+use Rattle.dfs_job.specs.Parted.{IsRefusedPart, IsRefusedPlan}
+use Rattle.dfs_ops.specs.declared.OpReply.{OpReply}
+use Rattle.dfs_ops.specs.declared.OpReply.TheVariants.{Done as OpDone, Entry as OpEntry, Listing as OpListing, Root as OpRoot, NoEnt as OpNoEnt, NotDir as OpNotDir, IsDir as OpIsDir, Exists as OpExists, NotEmpty as OpNotEmpty, Inside as OpInside, Full as OpFull}
+use Rattle.dfs_reply.specs.declared.Reply.TheVariants.{Error}
+use Rattle.dfs_reply.specs.declared.Word.TheVariants as word
+use Rattle.dfs_session.specs.Session.{told, told_of_part, told_of_plan}
+use Rattle.dfs_session.specs.Worked.{IsError}
 
 abbrev pub fault_or : {T : Type 0} → Result T Fault → Fault
 fault_or (Ok x) = NoMemory
@@ -36,10 +43,30 @@ pub none_unless : (n : ℕ) → (0 < n → ⊥) → n ≡ 0
 none_unless zero some = refl
 none_unless (suc n) some = absurd (some (omega arith))
 
--- a part that was refused, and the reply that tells it
-pub part_refused : (answer : JobPart) → IsRefusedPart answer → IsRefused (told_of_part answer)
-part_refused Merged is = absurd is
-part_refused Last is = absurd is
-part_refused NoPlan is = tt
-part_refused Range is = tt
-part_refused Done is = tt
+-- ---- replies that refuse a line
+
+pub plan_error : (answer : Planned) → IsError (told_of_plan answer) → IsRefusedPlan answer
+plan_error Made is = is
+plan_error Busy is = tt
+plan_error planned.Full is = tt
+
+pub part_error : (answer : JobPart) → IsError (told_of_part answer) → IsRefusedPart answer
+part_error Merged is = is
+part_error Last is = is
+part_error NoPlan is = tt
+part_error Range is = tt
+part_error Done is = tt
+
+-- an operation that was applied does not say that there is no such job
+pub told_no_job : (answer : OpReply) → told answer ≡ Error word.NoJob → ⊥
+told_no_job OpDone is = absurd (cc is)
+told_no_job (OpEntry entry) is = absurd (cc is)
+told_no_job (OpListing entries) is = absurd (cc is)
+told_no_job OpRoot is = absurd (cc is)
+told_no_job OpNoEnt is = absurd (cc is)
+told_no_job OpNotDir is = absurd (cc is)
+told_no_job OpIsDir is = absurd (cc is)
+told_no_job OpExists is = absurd (cc is)
+told_no_job OpNotEmpty is = absurd (cc is)
+told_no_job OpInside is = absurd (cc is)
+told_no_job OpFull is = absurd (cc is)

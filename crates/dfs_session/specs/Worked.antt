@@ -1,13 +1,16 @@
 -- What the working of a line does.
-use Rattle.std.specs.Prelude.{◌≡◌, ◌≤◌, ◌<◌, ◌+◌, ◌⊎◌, ℕ, Bool, false, nat_lt, IsTrue, List, map, Option, Some, None, Result, Ok, Err, OnOk, IfOk, IsErrOf}
+use Rattle.std.specs.Prelude.{◌≡◌, ◌≤◌, ◌<◌, ◌+◌, ◌⊎◌, ℕ, Bool, false, nat_lt, IsTrue, List, map, Option, Some, None, Result, Ok, Err, OnOk, IfErr, IfOk, IsErrOf}
+use Rattle.std.specs.BTreeMap.{is_at}
 use Rattle.std.specs.List.{AllByRecursion, list_all, list_any}
+use Rattle.std.specs.Map.{lookup}
 use Rattle.std.specs.Global.{Vec}
 use Rattle.dfs_host.specs.Fault.{HasFaultCause}
 use Rattle.dfs_host.specs.Host.{HostState, Told, LeavesOnly, SaysNothing}
 use Rattle.dfs_host.specs.declared.fault.Fault.{Fault}
-use Rattle.dfs_host.specs.declared.fault.Fault.TheVariants.{LogFull}
+use Rattle.dfs_host.specs.declared.fault.Fault.TheVariants.{LogFull, NoMemory}
 use Rattle.dfs_reply.specs.declared.Reply.{Reply}
 use Rattle.dfs_reply.specs.declared.Reply.TheVariants.{Nothing as NoReply, Ok as OkReply, Job as JobReply, Stat as StatReply, Listing as ListingReply, Snapshots as SnapshotsReply, Merged as MergedReply, Stats as StatsReply, Published as PublishedReply, Damaged as DamagedReply, Error}
+use Rattle.dfs_reply.specs.declared.Word.TheVariants as word
 use Rattle.dfs_reply.specs.Text.{text}
 use Rattle.dfs_registry.specs.Reading.{Reading, listing, not_a_registry, damaged}
 use Rattle.dfs_registry.specs.declared.listed.Listed.{Listed}
@@ -31,7 +34,7 @@ use Rattle.dfs_job.specs.declared.job.Job.{Job as LiveJob}
 use Rattle.dfs_job.specs.Job.{Job, after, after_flush, after_plan, does, layer_changes, need}
 use Rattle.dfs_job.specs.Stands.{Passes, PassesWith, flushed_firsts, merges_too_many, publishes_too_many}
 use Rattle.dfs_session.specs.Selected.{is_selected}
-use Rattle.dfs_session.specs.Session.{Session, Step, after_command, after_meaning, begins, begins_over, flushes, live_job, merges, of_job, operates_for, plans, publishes_anew, publishes_for, sets, with_setting}
+use Rattle.dfs_session.specs.Session.{Session, Step, after_command, after_meaning, begins, begins_over, flushes, live_job, merges, of_job, operates_for, plans, publishes_anew, publishes_for, sets, with_setting, word_cmp}
 use Rattle.dfs_session.specs.Kept.{begin_in}
 use Rattle.dfs_session.specs.Sound.{IsSound, jobs_of, live_in, number_of}
 use Rattle.dfs_session.specs.Stands.{Stands, LeavesValue}
@@ -48,7 +51,7 @@ OpensAs reading (Err reg.Disk) = Unit {0}
 abbrev pub has_refused : LiveSession → Bool
 has_refused session = list_any (λ e. nat_lt 0 e.1.layers.log.refused) (jobs_of session)
 
--- whether there is a job under the word that the test holds of
+-- whether there is a job that the test holds of
 abbrev pub job_is : (LiveJob → Bool) → Option LiveJob → Bool
 job_is test None = false
 job_is test (Some job) = test job
@@ -57,30 +60,56 @@ job_is test (Some job) = test job
 abbrev pub IsPast : LiveJob → Type 0
 IsPast job = 0 < job.layers.log.refused → job.settings.log_bytes < job.layers.log.len + job.layers.log.refused
 
--- `LogFull` where a log refused a piece that did not fit, and else only where a run may need too many tables.
-pub record IsFullWhere {T : Type 0} (result : Result T Fault) (many : Bool) (new : LiveSession) : Type 0 where
-  pub only : IsErrOf result LogFull → IsTrue (has_refused new) ⊎ IsTrue many
+-- whether the log of the job under the word has refused a piece
+abbrev pub refused_of : List (JobWord × LiveJob) → JobWord → Bool
+refused_of jobs w = job_is (λ j. nat_lt 0 j.layers.log.refused) (lookup (is_at (word_cmp w)) jobs)
+
+-- `LogFull` where the log of the line's job refused a piece that did not fit, and else only where a run may need too many tables.
+pub record IsFullWhere {T : Type 0} (result : Result T Fault) (logged many : Bool) (new : LiveSession) : Type 0 where
+  pub only : IsErrOf result LogFull → IsTrue logged ⊎ IsTrue many
   pub past : AllByRecursion (λ e. IsPast e.1) (jobs_of new)
   pub refused : IsTrue (has_refused new) → IsErrOf result LogFull
 
--- the reply refuses the line
-abbrev pub IsRefused : Reply → Type 0
-IsRefused NoReply = ⊥
-IsRefused OkReply = ⊥
-IsRefused (JobReply job) = ⊥
-IsRefused (StatReply entry) = ⊥
-IsRefused (ListingReply entries) = ⊥
-IsRefused (SnapshotsReply snapshots) = ⊥
-IsRefused MergedReply = ⊥
-IsRefused (StatsReply runs records) = ⊥
-IsRefused (PublishedReply name count) = ⊥
-IsRefused (DamagedReply name) = Unit {0}
-IsRefused (Error w) = Unit {0}
+-- the reply is that of a refused line, but for a damaged snapshot
+abbrev pub IsError : Reply → Type 0
+IsError NoReply = ⊥
+IsError OkReply = ⊥
+IsError (JobReply job) = ⊥
+IsError (StatReply entry) = ⊥
+IsError (ListingReply entries) = ⊥
+IsError (SnapshotsReply snapshots) = ⊥
+IsError MergedReply = ⊥
+IsError (StatsReply runs records) = ⊥
+IsError (PublishedReply name count) = ⊥
+IsError (DamagedReply name) = ⊥
+IsError (Error w) = Unit {0}
+
+-- The line is refused by what the session has in memory. An operation is so only where its word names no job.
+abbrev pub IsRefusedAtOnce : Line → Reply → Type 0
+IsRefusedAtOnce Nothing reply = IsError reply
+IsRefusedAtOnce (Set what value) reply = IsError reply
+IsRefusedAtOnce Snapshots reply = IsError reply
+IsRefusedAtOnce (Begin w names) reply = IsError reply
+IsRefusedAtOnce (Space w op) reply = reply ≡ Error word.NoJob
+IsRefusedAtOnce (Flush w) reply = IsError reply
+IsRefusedAtOnce (Plan w scope parts) reply = IsError reply
+IsRefusedAtOnce (Part w part) reply = IsError reply
+IsRefusedAtOnce (Stats w) reply = IsError reply
+IsRefusedAtOnce (Publish w name) reply = IsError reply
+IsRefusedAtOnce (End w) reply = IsError reply
+
+abbrev pub refused_at_once : Result Line LineFault → Reply → Type 0
+refused_at_once (Ok line) reply = IsRefusedAtOnce line reply
+refused_at_once (Err fault) reply = IsError reply
+
+-- no fault but want of memory came, and no call was made on the host
+abbrev pub StaysInMemory : {T : Type 0} → Result T Fault → HostState → HostState → Type 0
+StaysInMemory result before after = IfErr result (λ fault. fault ≡ NoMemory) × (after ≡ before)
 
 -- ---- what a line works
 
 -- What a line does, the job that it works, with what it makes of that job, what it leaves of the settings, the sessions of which it
--- reads nothing, the names that a job selects which it begins, and whether the run that it merges may need too many tables; and, of
+-- reads nothing, the names that a job selects which it begins, and whether the log of the job refused a piece, whether the run that it merges may need too many tables; and, of
 -- the plain session and of the session before and after it, whether that run would pass 131,072 tables.
 pub record Work : Type 1 where
   pub step : Session → Step
@@ -88,12 +117,13 @@ pub record Work : Type 1 where
   pub settings : Settings → Settings
   pub quiet : LiveSession → Type 0
   pub names : Option (List SnapName)
+  pub log : List (JobWord × LiveJob) → Bool
   pub many : LiveSession → Bool
   pub passes : Session → LiveSession → Type 0
 
 -- a line that no log is written for and that leaves the settings
 abbrev pub plain : (Session → Step) → Work
-plain does = record { step = does; job = λ s. None; settings = λ t. t; quiet = λ session. ⊥; names = None; many = λ session. false; passes = λ s old. ⊥ }
+plain does = record { step = does; job = λ s. None; settings = λ t. t; quiet = λ session. ⊥; names = None; log = λ jobs. false; many = λ session. false; passes = λ s old. ⊥ }
 
 -- each of the names stands in the begin of a live job
 abbrev pub AreSelected : List SnapName → LiveSession → Type 0
@@ -116,10 +146,10 @@ with_op op None = None
 with_op op (Some j) = Some (after j (does j op))
 
 abbrev pub operating : JobWord → Op → Work
-operating w op = record (plain (λ s. operates_for s w op)) { job = λ s. with_op op (live_job s w) }
+operating w op = record (plain (λ s. operates_for s w op)) { job = λ s. with_op op (live_job s w); log = λ jobs. refused_of jobs w }
 
 abbrev pub flushing : JobWord → Work
-flushing w = record (plain (λ s. flushes s w)) { job = λ s. live_job s w }
+flushing w = record (plain (λ s. flushes s w)) { job = λ s. live_job s w; log = λ jobs. refused_of jobs w }
 
 -- the job with a plan more
 abbrev pub with_plan_made : Scope → Option ℕ → Option Job → Option Job
@@ -127,7 +157,7 @@ with_plan_made scope parts None = None
 with_plan_made scope parts (Some j) = Some (after_plan j scope parts)
 
 abbrev pub planning : JobWord → Scope → Option ℕ → Work
-planning w scope parts = record (plain (λ s. plans s w scope parts)) { job = λ s. with_plan_made scope parts (live_job s w) }
+planning w scope parts = record (plain (λ s. plans s w scope parts)) { job = λ s. with_plan_made scope parts (live_job s w); log = λ jobs. refused_of jobs w }
 
 -- with this part the run of the job's plan would pass the most tables
 abbrev pub PartPasses : Option LiveJob → Option Job → ℕ → Type 0
@@ -136,7 +166,7 @@ PartPasses (Some live) None part = ⊥
 PartPasses (Some live) (Some j) part = PassesWith live.plan j.plan j part
 
 abbrev pub merging : JobWord → ℕ → Work
-merging w part = record (plain (λ s. merges s w part)) { job = λ s. live_job s w; many = λ session. job_is merges_too_many (live_in session w); passes = λ s old. PartPasses (live_in old w) (live_job s w) part }
+merging w part = record (plain (λ s. merges s w part)) { job = λ s. live_job s w; log = λ jobs. refused_of jobs w; many = λ session. job_is merges_too_many (live_in session w); passes = λ s old. PartPasses (live_in old w) (live_job s w) part }
 
 -- the run of the job's layers, the open one closed, would pass the most tables
 abbrev pub PublicationPasses : Option LiveJob → Option Job → Type 0
@@ -144,12 +174,16 @@ PublicationPasses None o = ⊥
 PublicationPasses (Some live) None = ⊥
 PublicationPasses (Some live) (Some j) = Passes (flushed_firsts live j) j.settings.parts (layer_changes (after_flush j))
 
+-- the publication is not refused
+abbrev pub NameIsFree : Session → JobWord → SnapName → Type 0
+NameIsFree s w name = ¬ (IsError (publishes_for s w name).reply)
+
 abbrev pub publishing : JobWord → SnapName → Work
-publishing w name = record (plain (λ s. publishes_for s w name)) { job = λ s. live_job s w; many = λ session. job_is publishes_too_many (live_in session w); passes = λ s old. PublicationPasses (live_in old w) (live_job s w) }
+publishing w name = record (plain (λ s. publishes_for s w name)) { job = λ s. live_job s w; log = λ jobs. refused_of jobs w; many = λ session. job_is publishes_too_many (live_in session w); passes = λ s old. NameIsFree s w name × PublicationPasses (live_in old w) (live_job s w) }
 
 -- the same under a new name
 abbrev pub publishing_anew : JobWord → SnapName → Work
-publishing_anew w name = record (plain (λ s. of_job s w (λ j. publishes_anew s w j name))) { job = λ s. live_job s w; many = λ session. job_is publishes_too_many (live_in session w); passes = λ s old. PublicationPasses (live_in old w) (live_job s w) }
+publishing_anew w name = record (plain (λ s. of_job s w (λ j. publishes_anew s w j name))) { job = λ s. live_job s w; log = λ jobs. refused_of jobs w; many = λ session. job_is publishes_too_many (live_in session w); passes = λ s old. PublicationPasses (live_in old w) (live_job s w) }
 
 -- the job that a command works
 abbrev pub job_of : Session → Line → Option Job
@@ -207,6 +241,20 @@ names_of (Stats w) = None
 names_of (Publish w name) = None
 names_of (End w) = None
 
+-- whether the log of the job that a command works refused a piece
+abbrev pub log_of : Line → List (JobWord × LiveJob) → Bool
+log_of Nothing jobs = false
+log_of (Set what value) jobs = false
+log_of Snapshots jobs = false
+log_of (Begin w names) jobs = false
+log_of (Space w op) jobs = refused_of jobs w
+log_of (Flush w) jobs = refused_of jobs w
+log_of (Plan w scope parts) jobs = refused_of jobs w
+log_of (Part w part) jobs = refused_of jobs w
+log_of (Stats w) jobs = false
+log_of (Publish w name) jobs = refused_of jobs w
+log_of (End w) jobs = false
+
 -- whether the run that a command merges may need too many tables
 abbrev pub many_of : Line → LiveSession → Bool
 many_of Nothing session = false
@@ -232,11 +280,11 @@ passes_of (Flush w) s old = ⊥
 passes_of (Plan w scope parts) s old = ⊥
 passes_of (Part w part) s old = PartPasses (live_in old w) (live_job s w) part
 passes_of (Stats w) s old = ⊥
-passes_of (Publish w name) s old = PublicationPasses (live_in old w) (live_job s w)
+passes_of (Publish w name) s old = NameIsFree s w name × PublicationPasses (live_in old w) (live_job s w)
 passes_of (End w) s old = ⊥
 
 abbrev pub of_command : Line → Work
-of_command line = record { step = λ s. after_command s line; job = λ s. job_of s line; settings = λ t. settings_of t line; quiet = λ session. IsQuiet line session; names = names_of line; many = λ session. many_of line session; passes = λ s old. passes_of line s old }
+of_command line = record { step = λ s. after_command s line; job = λ s. job_of s line; settings = λ t. settings_of t line; quiet = λ session. IsQuiet line session; names = names_of line; log = λ jobs. log_of line jobs; many = λ session. many_of line session; passes = λ s old. passes_of line s old }
 
 -- the job that a line works, with what it makes of that job
 abbrev pub job_by : Session → Result Line LineFault → Option Job
@@ -256,6 +304,10 @@ abbrev pub names_by : Result Line LineFault → Option (List SnapName)
 names_by (Ok line) = names_of line
 names_by (Err fault) = None
 
+abbrev pub log_by : Result Line LineFault → List (JobWord × LiveJob) → Bool
+log_by (Ok line) jobs = log_of line jobs
+log_by (Err fault) jobs = false
+
 abbrev pub many_by : Result Line LineFault → LiveSession → Bool
 many_by (Ok line) session = many_of line session
 many_by (Err fault) session = false
@@ -265,7 +317,7 @@ passes_by (Ok line) s old = passes_of line s old
 passes_by (Err fault) s old = ⊥
 
 abbrev pub of_meaning : Result Line LineFault → Work
-of_meaning line = record { step = λ s. after_meaning s line; job = λ s. job_by s line; settings = λ t. settings_by t line; quiet = λ session. quiet_by line session; names = names_by line; many = λ session. many_by line session; passes = λ s old. passes_by line s old }
+of_meaning line = record { step = λ s. after_meaning s line; job = λ s. job_by s line; settings = λ t. settings_by t line; quiet = λ session. quiet_by line session; names = names_by line; log = λ jobs. log_by line jobs; many = λ session. many_by line session; passes = λ s old. passes_by line s old }
 
 abbrev pub of_line : List ℕ → Work
 of_line line = of_meaning (meaning line)
@@ -297,8 +349,8 @@ pub record IsWorked (work : Work) (before now : HostState) (old new : LiveSessio
   pub images : (s : Session) → Told before (Stands before old s → LeavesOnly (HoldsEither s.registry (work.step s).session.registry) before now)
   pub silent : SaysNothing before now
   pub cause : HasFaultCause before now result
-  pub full : IsFullWhere result (work.many old) new
-  pub passes : (s : Session) → Told before (Stands before old s → IsErrOf result LogFull → IsTrue (has_refused new) ⊎ work.passes s old)
+  pub full : IsFullWhere result (work.log (jobs_of new)) (work.many old) new
+  pub passes : (s : Session) → Told before (Stands before old s → IsErrOf result LogFull → IsTrue (work.log (jobs_of new)) ⊎ work.passes s old)
   pub short : (s : Session) → Told before (Stands before old s → IsErrOf result LogFull → IsShort (work.job s))
   pub reads : work.quiet old → OnOk result (now.reads ≡ before.reads)
   pub names : OnOk result (AreNamed work.names old new)

@@ -24,7 +24,10 @@ impl Session {
     ghost use Rattle.dfs_session.specs.Kept.{IsInside, IsOwn};
     ghost use Rattle.dfs_session.specs.Selected.{is_listed};
     ghost use Rattle.dfs_session.specs.Sound.{IsEntry, IsSound, listed_in, jobs_of, live_in};
-    ghost use Rattle.dfs_session.specs.Worked.{IsWorked, beginning, beginning_over};
+    ghost use Rattle.dfs_script.specs.declared.Line.TheVariants.{Begin};
+    ghost use Rattle.dfs_session.specs.Session.{Session as PlainSession, begins};
+    ghost use Rattle.dfs_session.specs.Stands.{Stands};
+    ghost use Rattle.dfs_session.specs.Worked.{IsRefusedAtOnce, IsWorked, StaysInMemory, beginning, beginning_over};
 
     /// Begins a job over the publications of the names.
     pub(crate) fn begin<H: Host>(
@@ -34,7 +37,8 @@ impl Session {
         names: &Names,
     ) -> Result<Vec<u8>, Fault>
         requires { IsSound (H.state host.old) self.old }
-        ensures { IsWorked (beginning word names.now) (H.state host.old) (H.state host.new) self.old self.new result }
+        ensures worked { IsWorked (beginning word names.now) (H.state host.old) (H.state host.new) self.old self.new result }
+        ensures at_once { (s : PlainSession) → Told (H.state host.old) (Stands (H.state host.old) self.old s → IsRefusedAtOnce (Begin word names.now) (begins s word names.now).reply → StaysInMemory result (H.state host.old) (H.state host.new)) }
     {
         if self.jobs.contains_key(&word) {
             return text_of(self.alloc, &Reply::Error(Word::LiveJob));

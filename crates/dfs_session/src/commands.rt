@@ -77,15 +77,16 @@ fn snapshots(alloc: Global, registry: &Registry) -> Result<SnapList, Fault>
 }
 
 impl Session {
-    ghost use Rattle.std.specs.Prelude.{◌≡◌, IfSome, IsTrue, OnOk};
+    ghost use Rattle.std.specs.Prelude.{◌≡◌, IfErr, IfSome, IsTrue, OnOk};
     ghost use Rattle.dfs_host.specs.Host.{Told};
     ghost use Rattle.dfs_path.specs.Op.{IsOp};
     ghost use Rattle.dfs_script.specs.Scopes.{is_parts};
+    ghost use Rattle.dfs_script.specs.declared.Line.TheVariants.{Flush, Part, Plan, Space};
     ghost use Rattle.dfs_script.specs.Settings.{is_in_range};
-    ghost use Rattle.dfs_session.specs.Session.{Session as PlainSession, ends, live_job, merges, tells_snapshots, tells_stats};
+    ghost use Rattle.dfs_session.specs.Session.{Session as PlainSession, ends, flushes, live_job, merges, operates_for, plans, tells_snapshots, tells_stats};
     ghost use Rattle.dfs_session.specs.Sound.{IsSound, IsSoundInMemory, live_in};
     ghost use Rattle.dfs_session.specs.Stands.{Stands};
-    ghost use Rattle.dfs_session.specs.Worked.{IsRefused, IsWorked, PartPasses, IsWorkedInMemory, flushing, merging, operating, plain, planning, setting};
+    ghost use Rattle.dfs_session.specs.Worked.{IsRefusedAtOnce, IsWorked, PartPasses, StaysInMemory, IsWorkedInMemory, flushing, merging, operating, plain, planning, setting};
 
     /// Sets what jobs that begin later are given.
     pub(crate) fn set(&mut self, what: Setting, value: u64) -> Result<Vec<u8>, Fault>
@@ -115,7 +116,8 @@ impl Session {
     ) -> Result<Vec<u8>, Fault>
         requires sound { IsSound (H.state host.old) self.old }
         requires op { IsOp op.now }
-        ensures { IsWorked (operating word.now op.now) (H.state host.old) (H.state host.new) self.old self.new result }
+        ensures worked { IsWorked (operating word.now op.now) (H.state host.old) (H.state host.new) self.old self.new result }
+        ensures at_once { (s : PlainSession) → Told (H.state host.old) (Stands (H.state host.old) self.old s → IsRefusedAtOnce (Space word.now op.now) (operates_for s word.now op.now).reply → StaysInMemory result (H.state host.old) (H.state host.new)) }
     {
         let Some(job) = self.jobs.get_mut(word) else {
             return text_of(self.alloc, &Reply::Error(Word::NoJob));
@@ -127,7 +129,8 @@ impl Session {
     /// Closes the open layer of a live job.
     pub(crate) fn flush<H: Host>(&mut self, host: &mut H, word: &JobWord) -> Result<Vec<u8>, Fault>
         requires { IsSound (H.state host.old) self.old }
-        ensures { IsWorked (flushing word.now) (H.state host.old) (H.state host.new) self.old self.new result }
+        ensures worked { IsWorked (flushing word.now) (H.state host.old) (H.state host.new) self.old self.new result }
+        ensures at_once { (s : PlainSession) → Told (H.state host.old) (Stands (H.state host.old) self.old s → IsRefusedAtOnce (Flush word.now) (flushes s word.now).reply → StaysInMemory result (H.state host.old) (H.state host.new)) }
     {
         let Some(job) = self.jobs.get_mut(word) else {
             return text_of(self.alloc, &Reply::Error(Word::NoJob));
@@ -146,7 +149,8 @@ impl Session {
     ) -> Result<Vec<u8>, Fault>
         requires sound { IsSound (H.state host.old) self.old }
         requires parts { IfSome parts (λ n. IsTrue (is_parts n)) }
-        ensures { IsWorked (planning word.now scope parts) (H.state host.old) (H.state host.new) self.old self.new result }
+        ensures worked { IsWorked (planning word.now scope parts) (H.state host.old) (H.state host.new) self.old self.new result }
+        ensures at_once { (s : PlainSession) → Told (H.state host.old) (Stands (H.state host.old) self.old s → IsRefusedAtOnce (Plan word.now scope parts) (plans s word.now scope parts).reply → StaysInMemory result (H.state host.old) (H.state host.new)) }
     {
         let Some(job) = self.jobs.get_mut(word) else {
             return text_of(self.alloc, &Reply::Error(Word::NoJob));
@@ -164,7 +168,8 @@ impl Session {
     ) -> Result<Vec<u8>, Fault>
         requires { IsSound (H.state host.old) self.old }
         ensures worked { IsWorked (merging word.now part) (H.state host.old) (H.state host.new) self.old self.new result }
-        ensures too_many { (s : PlainSession) → Told (H.state host.old) (Stands (H.state host.old) self.old s → PartPasses (live_in self.old word.now) (live_job s word.now) part → OnOk result (IsRefused (merges s word.now part).reply)) }
+        ensures too_many { (s : PlainSession) → Told (H.state host.old) (Stands (H.state host.old) self.old s → PartPasses (live_in self.old word.now) (live_job s word.now) part → OnOk result ⊥) }
+        ensures at_once { (s : PlainSession) → Told (H.state host.old) (Stands (H.state host.old) self.old s → IsRefusedAtOnce (Part word.now part) (merges s word.now part).reply → StaysInMemory result (H.state host.old) (H.state host.new)) }
     {
         let Some(job) = self.jobs.get_mut(word) else {
             return text_of(self.alloc, &Reply::Error(Word::NoJob));
@@ -176,7 +181,8 @@ impl Session {
     /// Tells how many closed layers a live job has, and how many keys are in them.
     pub(crate) fn tell_stats(&self, word: &JobWord) -> Result<Vec<u8>, Fault>
         requires { IsSoundInMemory self.now }
-        ensures { IsWorkedInMemory (plain (λ s. tells_stats s word.now)) self.now self.now result }
+        ensures worked { IsWorkedInMemory (plain (λ s. tells_stats s word.now)) self.now self.now result }
+        ensures memory { IfErr result (λ fault. fault ≡ Fault.NoMemory) }
     {
         let Some(job) = self.jobs.get(word) else {
             return text_of(self.alloc, &Reply::Error(Word::NoJob));
@@ -194,12 +200,14 @@ impl Session {
     /// Ends a live job, which publishes nothing.
     pub(crate) fn end(&mut self, word: &JobWord) -> Result<Vec<u8>, Fault>
         requires { IsSoundInMemory self.old }
-        ensures { IsWorkedInMemory (plain (λ s. ends s word.now)) self.old self.new result }
+        ensures worked { IsWorkedInMemory (plain (λ s. ends s word.now)) self.old self.new result }
+        ensures memory { IfErr result (λ fault. fault ≡ Fault.NoMemory) }
     {
         let Some(job) = self.jobs.remove(word) else {
             return text_of(self.alloc, &Reply::Error(Word::NoJob));
         };
         self.kept.end(job.ids.job);
+        job.drop_job();
         text_of(self.alloc, &Reply::Ok)
     }
 }

@@ -68,10 +68,11 @@ impl Session {
     ghost use Rattle.std.specs.Prelude.{◌≡◌, ◌<◌, false, length, OnOk};
     ghost use Rattle.dfs_host.specs.Host.{Told};
     ghost use Rattle.dfs_registry.specs.Body.{lists_name};
+    ghost use Rattle.dfs_script.specs.declared.Line.TheVariants.{Publish};
     ghost use Rattle.dfs_session.specs.Session.{Session as PlainSession, live_job, publishes_for};
     ghost use Rattle.dfs_session.specs.Sound.{IsSound, listed_in, live_in};
     ghost use Rattle.dfs_session.specs.Stands.{Stands};
-    ghost use Rattle.dfs_session.specs.Worked.{IsRefused, IsWorked, PublicationPasses, publishing, publishing_anew};
+    ghost use Rattle.dfs_session.specs.Worked.{IsRefusedAtOnce, IsWorked, NameIsFree, PublicationPasses, StaysInMemory, publishing, publishing_anew};
 
     /// Publishes the changes of a job, which ends.
     pub(crate) fn publish<H: Host>(
@@ -82,7 +83,8 @@ impl Session {
     ) -> Result<Vec<u8>, Fault>
         requires { IsSound (H.state host.old) self.old }
         ensures worked { IsWorked (publishing word.now name) (H.state host.old) (H.state host.new) self.old self.new result }
-        ensures too_many { (s : PlainSession) → Told (H.state host.old) (Stands (H.state host.old) self.old s → PublicationPasses (live_in self.old word.now) (live_job s word.now) → OnOk result (IsRefused (publishes_for s word.now name).reply)) }
+        ensures too_many { (s : PlainSession) → Told (H.state host.old) (Stands (H.state host.old) self.old s → NameIsFree s word.now name × PublicationPasses (live_in self.old word.now) (live_job s word.now) → OnOk result ⊥) }
+        ensures at_once { (s : PlainSession) → Told (H.state host.old) (Stands (H.state host.old) self.old s → IsRefusedAtOnce (Publish word.now name) (publishes_for s word.now name).reply → StaysInMemory result (H.state host.old) (H.state host.new)) }
     {
         if !self.jobs.contains_key(word) {
             return text_of(self.alloc, &Reply::Error(Word::NoJob));

@@ -73,7 +73,7 @@ impl Session {
     ghost use Rattle.dfs_session.specs.Sound.{IsSound, jobs_of};
     ghost use Rattle.dfs_job.specs.Stands.{AreSettings};
     ghost use Rattle.dfs_session.specs.Stands.{Stands, LeavesValue};
-    ghost use Rattle.dfs_session.specs.Worked.{AreNamed, OpensAs, IsPast, IsRefused, IsShort, IsWorked, has_refused, job_by, many_by, names_by, of_command, of_line, passes_by, passes_of, settings_by};
+    ghost use Rattle.dfs_session.specs.Worked.{AreNamed, OpensAs, IsPast, IsRefusedAtOnce, IsShort, IsWorked, StaysInMemory, has_refused, job_by, log_by, many_by, names_by, of_command, of_line, passes_by, passes_of, refused_at_once, settings_by};
 
     /// Opens the registry of a host. Jobs that begin are given the settings.
     pub fn open<H: Host>(
@@ -133,12 +133,14 @@ impl Session {
         ensures durable { (s : PlainSession) → Told (H.state host.old) (Stands (H.state host.old) self.old s → OnOk result (HoldsNow (step_of s line.now).session.registry (H.state host.new))) }
         ensures silent { SaysNothing (H.state host.old) (H.state host.new) }
         ensures cause { HasFaultCause (H.state host.old) (H.state host.new) result }
-        // `LogFull` exactly where the log of a job refused a piece in this line or the run that the line merges would pass 131,072 tables,
-        // but for want of memory, a disk fault and a line that is refused; on a host that tells nothing, only where by counts it may need
-        // more. And only where the log of the line's job is too short for what that job selected and made, this line counted.
-        ensures passes { (s : PlainSession) → Told (H.state host.old) (Stands (H.state host.old) self.old s → IsErrOf result Fault.LogFull → IsTrue (has_refused self.new) ⊎ passes_by (meaning line.now) s self.old) }
-        ensures too_many { (s : PlainSession) → Told (H.state host.old) (Stands (H.state host.old) self.old s → passes_by (meaning line.now) s self.old → OnOk result (IsRefused (step_of s line.now).reply)) }
-        ensures full { IsErrOf result Fault.LogFull → IsTrue (has_refused self.new) ⊎ IsTrue (many_by (meaning line.now) self.old) }
+        // `LogFull` exactly where the log of the line's job refused a piece or the run that the line merges would pass 131,072 tables,
+        // but for want of memory and a disk fault; on a host that tells nothing, only where by counts it may need more. And only
+        // where the log of that job is too short for what the job selected and made, this line counted.
+        ensures passes { (s : PlainSession) → Told (H.state host.old) (Stands (H.state host.old) self.old s → IsErrOf result Fault.LogFull → IsTrue (log_by (meaning line.now) (jobs_of self.new)) ⊎ passes_by (meaning line.now) s self.old) }
+        ensures too_many { (s : PlainSession) → Told (H.state host.old) (Stands (H.state host.old) self.old s → passes_by (meaning line.now) s self.old → OnOk result ⊥) }
+        // A line that is refused by what the session has in memory meets no fault but want of memory, and makes no call on the host.
+        ensures at_once { (s : PlainSession) → Told (H.state host.old) (Stands (H.state host.old) self.old s → refused_at_once (meaning line.now) (step_of s line.now).reply → StaysInMemory result (H.state host.old) (H.state host.new)) }
+        ensures full { IsErrOf result Fault.LogFull → IsTrue (log_by (meaning line.now) (jobs_of self.new)) ⊎ IsTrue (many_by (meaning line.now) self.old) }
         ensures refused { IsTrue (has_refused self.new) → IsErrOf result Fault.LogFull }
         ensures past { AllByRecursion (λ e. IsPast e.1) (jobs_of self.new) }
         ensures short { (s : PlainSession) → Told (H.state host.old) (Stands (H.state host.old) self.old s → IsErrOf result Fault.LogFull → IsShort (job_by s (meaning line.now))) }
@@ -161,7 +163,8 @@ impl Session {
     fn work<H: Host>(&mut self, host: &mut H, line: &[u8]) -> Result<Vec<u8>, Fault>
         requires { IsSound (H.state host.old) self.old }
         ensures worked { IsWorked (of_line line.now) (H.state host.old) (H.state host.new) self.old self.new result }
-        ensures too_many { (s : PlainSession) → Told (H.state host.old) (Stands (H.state host.old) self.old s → passes_by (meaning line.now) s self.old → OnOk result (IsRefused (step_of s line.now).reply)) }
+        ensures too_many { (s : PlainSession) → Told (H.state host.old) (Stands (H.state host.old) self.old s → passes_by (meaning line.now) s self.old → OnOk result ⊥) }
+        ensures at_once { (s : PlainSession) → Told (H.state host.old) (Stands (H.state host.old) self.old s → refused_at_once (meaning line.now) (step_of s line.now).reply → StaysInMemory result (H.state host.old) (H.state host.new)) }
     {
         match read_line(self.alloc, line) {
             Ok(line) => self.obey(host, line),
@@ -176,7 +179,8 @@ impl Session {
         requires sound { IsSound (H.state host.old) self.old }
         requires line { IsLine line }
         ensures worked { IsWorked (of_command line) (H.state host.old) (H.state host.new) self.old self.new result }
-        ensures too_many { (s : PlainSession) → Told (H.state host.old) (Stands (H.state host.old) self.old s → passes_of line s self.old → OnOk result (IsRefused (after_command s line).reply)) }
+        ensures too_many { (s : PlainSession) → Told (H.state host.old) (Stands (H.state host.old) self.old s → passes_of line s self.old → OnOk result ⊥) }
+        ensures at_once { (s : PlainSession) → Told (H.state host.old) (Stands (H.state host.old) self.old s → IsRefusedAtOnce (line) (after_command s line).reply → StaysInMemory result (H.state host.old) (H.state host.new)) }
     {
         match line {
             Line::Nothing => text_of(self.alloc, &Reply::Nothing),

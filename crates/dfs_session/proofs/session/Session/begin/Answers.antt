@@ -20,14 +20,14 @@ use Rattle.dfs_session.specs.Session.{changes_of, stays}
 use Rattle.dfs_session.specs.Sound.{jobs_of, listed_in}
 use Rattle.dfs_session.specs.Worked.{IsWorked, beginning, beginning_over}
 use Rattle.dfs_session.proofs.Begun.{names_kept}
-use Rattle.dfs_session.proofs.Choosing.{begins_as, begins_chosen, after_reads, read_fault_worked}
+use Rattle.dfs_session.proofs.Choosing.{begins_as, begins_chosen, begins_no_error, after_reads, read_fault_worked}
 use Rattle.dfs_session.proofs.Kept.{all_opened, sound_reads, zip_read}
 use Rattle.dfs_session.proofs.Selecting.{no_fault}
 use Rattle.dfs_session.proofs.Working.{on_ok, on_ok_by, stays_in_memory, stays_worked}
 use Rattle.dfs_session.proofs.session.Session.begin.Goals as goal
 
-pub returns-then-contains_key : goal.returns-then-contains_key
-returns-then-contains_key g c =
+pub returns-then-contains_key-clause-worked : goal.returns-then-contains_key-clause-worked
+returns-then-contains_key-clause-worked g c =
     let session = c.args.self.now in
     let host = g.H.Host.state c.args.host.now in
     let names = c.args.names.now in
@@ -35,8 +35,8 @@ returns-then-contains_key g c =
     (λ s tells stands. begins_as host session s c.args.word names stands true (nat_le 64 (length (jobs_of session)) || nat_le 4294967294 session.greatest) (list_all (is_listed (listed_in session)) names) c.if-contains_key.ensures refl refl)
     c.text_of.ensures.text c.text_of.ensures.memory
 
-pub returns-then-is_full : goal.returns-then-is_full
-returns-then-is_full g c =
+pub returns-then-is_full-clause-worked : goal.returns-then-is_full-clause-worked
+returns-then-is_full-clause-worked g c =
     let session = c.args.self.now in
     let host = g.H.Host.state c.args.host.now in
     let names = c.args.names.now in
@@ -44,8 +44,8 @@ returns-then-is_full g c =
     (λ s tells stands. begins_as host session s c.args.word names stands false true (list_all (is_listed (listed_in session)) names) c.if-contains_key.ensures c.if-is_full.ensures refl)
     c.text_of-then-is_full.ensures.text c.text_of-then-is_full.ensures.memory
 
-pub returns-then-not-lists : goal.returns-then-not-lists
-returns-then-not-lists g c =
+pub returns-then-not-lists-clause-worked : goal.returns-then-not-lists-clause-worked
+returns-then-not-lists-clause-worked g c =
     let session = c.args.self.now in
     let host = g.H.Host.state c.args.host.now in
     let names = c.args.names.now in
@@ -53,8 +53,8 @@ returns-then-not-lists g c =
     (λ s tells stands. begins_as host session s c.args.word names stands false false false c.if-contains_key.ensures c.if-is_full.ensures c.if-not-lists.ensures)
     c.text_of-then-not-lists.ensures.text c.text_of-then-not-lists.ensures.memory
 
-pub returns-in_err-changes : goal.returns-in_err-changes
-returns-in_err-changes g c =
+pub returns-in_err-changes-clause-worked : goal.returns-in_err-changes-clause-worked
+returns-in_err-changes-clause-worked g c =
     let session = c.args.self.now in
     let before = g.H.Host.state c.args.host.now in
     let after = g.H.Host.state c.select.new.host in
@@ -84,8 +84,8 @@ begin_over-requires-clause-opened g c = λ tells.
     let chosen = chosen_in (listed_in c.args.self.now) c.args.names.now in
     all_opened before mid only told (map (λ c. c.value) c.in-Changes.changes.items) (subst (λ (x : Selection). IsSelection before chosen x) c.in-Changes.is (c.in_ok-changes.ensures.selection told)).opened
 
-pub returns-in-Changes : goal.returns-in-Changes
-returns-in-Changes g c =
+pub returns-in-Changes-clause-worked : goal.returns-in-Changes-clause-worked
+returns-in-Changes-clause-worked g c =
     let session = c.args.self.now in
     let names = c.args.names.now in
     let before = g.H.Host.state c.args.host.now in
@@ -104,10 +104,10 @@ returns-in-Changes g c =
     (λ s. refl) (λ t. refl)
     worked
     (λ quiet. on_ok_by c.begin_over.result (after.reads ≡ mid.reads) (after.reads ≡ before.reads) (λ reads. reads ∙ c.in_ok-changes.ensures.reads (names_kept session names c.requires.memory quiet)) (worked.reads tt))
-    (ap Some (sym (subst (λ (x : Selection). AreNamedBy names x) c.in-Changes.is c.in_ok-changes.ensures.names))) refl (λ s many. many)
+    (ap Some (sym (subst (λ (x : Selection). AreNamedBy names x) c.in-Changes.is c.in_ok-changes.ensures.names))) refl (λ s tells stands many. many) refl
 
-pub returns-in-Damaged : goal.returns-in-Damaged
-returns-in-Damaged g c =
+pub returns-in-Damaged-clause-worked : goal.returns-in-Damaged-clause-worked
+returns-in-Damaged-clause-worked g c =
     let session = c.args.self.now in
     let names = c.args.names.now in
     let before = g.H.Host.state c.args.host.now in
@@ -122,3 +122,24 @@ returns-in-Damaged g c =
     ∙ begins_chosen before session s c.args.word names stands (Some damaged.0) damaged.1 ∙ ap (λ (name : List ℕ). stays s (DamagedReply name)) damaged.2)
     c.text_of-in-Damaged.ensures.text c.text_of-in-Damaged.ensures.memory
     (λ quiet. on_ok c.text_of-in-Damaged.result (after.reads ≡ before.reads) (c.in_ok-changes.ensures.reads (names_kept session names c.requires.memory quiet)))
+
+pub returns-then-contains_key-clause-at_once : goal.returns-then-contains_key-clause-at_once
+returns-then-contains_key-clause-at_once g c = λ s tells stands is. (c.text_of.ensures.memory, refl)
+
+pub returns-then-is_full-clause-at_once : goal.returns-then-is_full-clause-at_once
+returns-then-is_full-clause-at_once g c = λ s tells stands is. (c.text_of-then-is_full.ensures.memory, refl)
+
+pub returns-then-not-lists-clause-at_once : goal.returns-then-not-lists-clause-at_once
+returns-then-not-lists-clause-at_once g c = λ s tells stands is. (c.text_of-then-not-lists.ensures.memory, refl)
+
+pub returns-in_err-changes-clause-at_once : goal.returns-in_err-changes-clause-at_once
+returns-in_err-changes-clause-at_once g c = λ s tells stands is.
+    absurd (begins_no_error (g.H.Host.state c.args.host.now) c.args.self.now s c.args.word c.args.names.now stands c.if-contains_key.ensures c.if-is_full.ensures c.if-not-lists.ensures is)
+
+pub returns-in-Changes-clause-at_once : goal.returns-in-Changes-clause-at_once
+returns-in-Changes-clause-at_once g c = λ s tells stands is.
+    absurd (begins_no_error (g.H.Host.state c.args.host.now) c.args.self.now s c.args.word c.args.names.now stands c.if-contains_key.ensures c.if-is_full.ensures c.if-not-lists.ensures is)
+
+pub returns-in-Damaged-clause-at_once : goal.returns-in-Damaged-clause-at_once
+returns-in-Damaged-clause-at_once g c = λ s tells stands is.
+    absurd (begins_no_error (g.H.Host.state c.args.host.now) c.args.self.now s c.args.word c.args.names.now stands c.if-contains_key.ensures c.if-is_full.ensures c.if-not-lists.ensures is)

@@ -7,8 +7,8 @@ use Rattle.dfs_session.specs.Worked.{plain}
 use Rattle.dfs_session.proofs.Working.{stays_in_memory}
 use Rattle.dfs_session.proofs.session.Session.end.Goals as goal
 
-pub returns-in_default : goal.returns-in_default
-returns-in_default c =
+pub returns-in_default-clause-worked : goal.returns-in_default-clause-worked
+returns-in_default-clause-worked c =
     let session = c.args.self.now in
     let w = c.args.word.now in
     λ host sound.
@@ -16,8 +16,8 @@ returns-in_default c =
     (λ s tells stands. ap (λ o. of_live o s (λ j. record { session = without_job s w; reply = OkReply })) (no_job host session s w stands (sym c.in_default.ensures.value)))
     c.text_of.ensures.text c.text_of.ensures.memory
 
-pub returns : goal.returns
-returns c =
+pub returns-clause-worked : goal.returns-clause-worked
+returns-clause-worked c =
     let session = c.args.self.now in
     let ended = c.end.ensures in
     λ host sound.

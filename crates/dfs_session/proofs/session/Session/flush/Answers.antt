@@ -12,7 +12,7 @@ use Rattle.dfs_script.specs.declared.JobWord.{JobWord}
 use Rattle.dfs_job.specs.declared.job.Job.{Job as LiveJob}
 use Rattle.dfs_job.specs.Job.{Job, after_flush}
 use Rattle.dfs_session.specs.Session.{of_live, with_job}
-use Rattle.dfs_session.specs.Worked.{IsShort, IsWorked, flushing}
+use Rattle.dfs_session.specs.Worked.{IsError, IsShort, IsWorked, flushing}
 use Rattle.dfs_session.proofs.Changing.{answered_worked, changed_stands, fault_worked, found_job, no_job, past_of, was_sound}
 use Rattle.dfs_session.proofs.Handed.{none_unless}
 use Rattle.dfs_session.proofs.Selecting.{no_fault}
@@ -24,8 +24,8 @@ flush-requires g c =
     let host = g.H.Host.state c.args.host.now in
     record { sound = was_sound host host c.args.self.now c.args.word.now c.in-Some.job.now c.requires (sym c.in-Some.ensures.value) }
 
-pub returns-in_default : goal.returns-in_default
-returns-in_default g c =
+pub returns-in_default-clause-worked : goal.returns-in_default-clause-worked
+returns-in_default-clause-worked g c =
     let session = c.args.self.now in
     let host = g.H.Host.state c.args.host.now in
     let w = c.args.word.now in
@@ -33,8 +33,8 @@ returns-in_default g c =
     (λ s tells stands. ap (λ (o : Option Job). of_live o s (λ j. record { session = with_job s w (after_flush j); reply = OkReply })) (no_job host session s w stands (sym c.in_default.ensures.value)))
     c.text_of.ensures.text c.text_of.ensures.memory
 
-pub returns-in_err-flush : goal.returns-in_err-flush
-returns-in_err-flush g c =
+pub returns-in_err-flush-clause-worked : goal.returns-in_err-flush-clause-worked
+returns-in_err-flush-clause-worked g c =
     let session = c.args.self.now in
     let before = g.H.Host.state c.args.host.now in
     let after = g.H.Host.state c.flush.new.host in
@@ -47,15 +47,15 @@ returns-in_err-flush g c =
     let p = err_from_is_err_and c.from_residual.result c.from_residual.ensures.1 in
     let same : c.from_residual.result ≡ Err fault = p.1 ∙ ap Err p.2 in
     subst (λ (r : Result (Vec ℕ) Fault). IsWorked (flushing w) before after session (record session { jobs = c.get_mut.follows.lender x }) r) (sym same)
-    (fault_worked before after session w live c.requires found c.flush.ensures.only x (c.get_mut.follows.lender x) (c.get_mut.follows.holds x).0 (flushing w) fault
+    (fault_worked before after session w live c.requires found c.flush.ensures.only x (c.get_mut.follows.lender x) (c.get_mut.follows.holds x).0 (flushing w) fault refl
     (subst (λ (r : Result (Unit {0}) Fault). HasFaultCause before after r) was c.flush.ensures.cause) (λ is. inl (c.flush.ensures.full.0 (was ∙ is))) (past_of before after session w live c.requires found x c.flush.ensures.settings c.flush.ensures.past) (λ some. sym was ∙ c.flush.ensures.full.1 some)
     (λ s tells stands is.
     let f = found_job before session s w live stands found in
     subst IsShort (sym f.found) (c.flush.ensures.short f.plain tells f.is (was ∙ ap Err is)))
     (λ s tells stands is. inl (c.flush.ensures.full.0 (was ∙ ap Err is))))
 
-pub returns : goal.returns
-returns g c =
+pub returns-clause-worked : goal.returns-clause-worked
+returns-clause-worked g c =
     let session = c.args.self.now in
     let before = g.H.Host.state c.args.host.now in
     let after = g.H.Host.state c.flush.new.host in
@@ -72,3 +72,26 @@ returns g c =
     (inl (ap (map (λ c. c.value)) c.flush.ensures.basis))
     (λ s f. ap (λ (o : Option Job). of_live o s (λ j. record { session = with_job s w (after_flush j); reply = OkReply })) f.found) (λ s f. refl) (λ s f tells. c.text_of-2.ensures.text)
     (λ s f tells stands. changed_stands before after session w live c.requires found c.flush.ensures.only x jobs set s (after_flush f.plain) tells stands (of.stands f.plain tells f.is)) c.text_of-2.ensures.memory (λ quiet. quiet)
+
+pub returns-in_default-clause-at_once : goal.returns-in_default-clause-at_once
+returns-in_default-clause-at_once g c = λ s tells stands is. (c.text_of.ensures.memory, refl)
+
+pub returns-in_err-flush-clause-at_once : goal.returns-in_err-flush-clause-at_once
+returns-in_err-flush-clause-at_once g c = λ s tells stands is.
+    let before = g.H.Host.state c.args.host.now in
+    let session = c.args.self.now in
+    let w = c.args.word.now in
+    let live = c.in-Some.job.now in
+    let found = sym c.in-Some.ensures.value in
+    let f = found_job before session s w live stands found in
+    absurd (subst IsError (ap (λ (o : Option Job). (of_live o s (λ j. record { session = with_job s w (after_flush j); reply = OkReply })).reply) f.found) is)
+
+pub returns-clause-at_once : goal.returns-clause-at_once
+returns-clause-at_once g c = λ s tells stands is.
+    let before = g.H.Host.state c.args.host.now in
+    let session = c.args.self.now in
+    let w = c.args.word.now in
+    let live = c.in-Some.job.now in
+    let found = sym c.in-Some.ensures.value in
+    let f = found_job before session s w live stands found in
+    absurd (subst IsError (ap (λ (o : Option Job). (of_live o s (λ j. record { session = with_job s w (after_flush j); reply = OkReply })).reply) f.found) is)

@@ -28,9 +28,9 @@ pub returns-in-Stats-clause-worked : goal.returns-in-Stats-clause-worked
 returns-in-Stats-clause-worked g c =
     let session = c.args.self.now in
     let host = g.H.Host.state c.args.host.now in
-    subst (λ (line : Line). IsWorked (of_command line) host host session session c.tell_stats.result) (sym c.in-Stats.is) (c.tell_stats.ensures host c.requires.sound)
+    subst (λ (line : Line). IsWorked (of_command line) host host session session c.tell_stats.result) (sym c.in-Stats.is) (c.tell_stats.ensures.worked host c.requires.sound)
 
 pub returns-in-End-clause-worked : goal.returns-in-End-clause-worked
 returns-in-End-clause-worked g c =
     let host = g.H.Host.state c.args.host.now in
-    subst (λ (line : Line). IsWorked (of_command line) host host c.args.self.now c.end.new.self c.end.result) (sym c.in-End.is) (c.end.ensures host c.requires.sound)
+    subst (λ (line : Line). IsWorked (of_command line) host host c.args.self.now c.end.new.self c.end.result) (sym c.in-End.is) (c.end.ensures.worked host c.requires.sound)

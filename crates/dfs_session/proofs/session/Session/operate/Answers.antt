@@ -18,7 +18,7 @@ use Rattle.dfs_job.specs.Job.{Job, after, does}
 use Rattle.dfs_session.specs.Session.{of_live, operates, told}
 use Rattle.dfs_session.specs.Worked.{IsShort, IsWorked, operating, with_op}
 use Rattle.dfs_session.proofs.Changing.{answered_worked, changed_stands, fault_worked, found_job, no_job, past_of, was_sound}
-use Rattle.dfs_session.proofs.Handed.{none_unless}
+use Rattle.dfs_session.proofs.Handed.{none_unless, told_no_job}
 use Rattle.dfs_session.proofs.Selecting.{no_fault}
 use Rattle.dfs_session.proofs.Working.{stays_in_memory}
 use Rattle.dfs_session.proofs.session.Session.operate.Goals as goal
@@ -28,8 +28,8 @@ op-requires-clause-sound g c =
     let host = g.H.Host.state c.args.host.now in
     was_sound host host c.args.self.now c.args.word.now c.in-Some.job.now c.requires.sound (sym c.in-Some.ensures.value)
 
-pub returns-in_default : goal.returns-in_default
-returns-in_default g c =
+pub returns-in_default-clause-worked : goal.returns-in_default-clause-worked
+returns-in_default-clause-worked g c =
     let session = c.args.self.now in
     let host = g.H.Host.state c.args.host.now in
     let w = c.args.word.now in
@@ -38,8 +38,8 @@ returns-in_default g c =
     (λ s tells stands. ap (λ (o : Option Job). of_live o s (λ j. operates s w j (does j op))) (no_job host session s w stands (sym c.in_default.ensures.value)))
     c.text_of.ensures.text c.text_of.ensures.memory
 
-pub returns-in_err-answer : goal.returns-in_err-answer
-returns-in_err-answer g c =
+pub returns-in_err-answer-clause-worked : goal.returns-in_err-answer-clause-worked
+returns-in_err-answer-clause-worked g c =
     let session = c.args.self.now in
     let before = g.H.Host.state c.args.host.now in
     let after = g.H.Host.state c.op.new.host in
@@ -53,15 +53,15 @@ returns-in_err-answer g c =
     let p = err_from_is_err_and c.from_residual.result c.from_residual.ensures.1 in
     let same : c.from_residual.result ≡ Err fault = p.1 ∙ ap Err p.2 in
     subst (λ (r : Result (Vec ℕ) Fault). IsWorked (operating w op) before after session (record session { jobs = c.get_mut.follows.lender x }) r) (sym same)
-    (fault_worked before after session w live c.requires.sound found c.op.ensures.only x (c.get_mut.follows.lender x) (c.get_mut.follows.holds x).0 (operating w op) fault
+    (fault_worked before after session w live c.requires.sound found c.op.ensures.only x (c.get_mut.follows.lender x) (c.get_mut.follows.holds x).0 (operating w op) fault refl
     (subst (λ (r : Result OpReply Fault). HasFaultCause before after r) was c.op.ensures.cause) (λ is. inl (c.op.ensures.full.0 (was ∙ is))) (past_of before after session w live c.requires.sound found x c.op.ensures.settings c.op.ensures.past) (λ some. sym was ∙ c.op.ensures.full.1 some)
     (λ s tells stands is.
     let f = found_job before session s w live stands found in
     subst (λ (o : Option Job). IsShort (with_op op o)) (sym f.found) (c.op.ensures.short f.plain tells f.is (was ∙ ap Err is)))
     (λ s tells stands is. inl (c.op.ensures.full.0 (was ∙ ap Err is))))
 
-pub returns : goal.returns
-returns g c =
+pub returns-clause-worked : goal.returns-clause-worked
+returns-clause-worked g c =
     let session = c.args.self.now in
     let before = g.H.Host.state c.args.host.now in
     let after_op = g.H.Host.state c.op.new.host in
@@ -80,3 +80,28 @@ returns g c =
     (λ s f. ap (λ (o : Option Job). of_live o s (λ j. operates s w j (does j op))) f.found) (λ s f. refl)
     (λ s f tells. subst (λ (a : OpReply). IfOk c.text_of-2.result (λ bytes. bytes.items ≡ text (told a))) (of.answer f.plain tells f.is) (subst (λ (r : Reply). IfOk c.text_of-2.result (λ bytes. bytes.items ≡ text r)) c.told.ensures c.text_of-2.ensures.text))
     (λ s f tells stands. changed_stands before after_op session w live c.requires.sound found c.op.ensures.only x jobs set s (after f.plain (does f.plain op)) tells stands (of.stands f.plain tells f.is)) c.text_of-2.ensures.memory (λ quiet. quiet)
+
+pub returns-in_default-clause-at_once : goal.returns-in_default-clause-at_once
+returns-in_default-clause-at_once g c = λ s tells stands is. (c.text_of.ensures.memory, refl)
+
+pub returns-in_err-answer-clause-at_once : goal.returns-in_err-answer-clause-at_once
+returns-in_err-answer-clause-at_once g c = λ s tells stands is.
+    let before = g.H.Host.state c.args.host.now in
+    let session = c.args.self.now in
+    let w = c.args.word.now in
+    let live = c.in-Some.job.now in
+    let found = sym c.in-Some.ensures.value in
+    let f = found_job before session s w live stands found in
+    let op = c.args.op.now in
+    absurd (told_no_job (does f.plain op).answer (sym (ap (λ (o : Option Job). (of_live o s (λ j. operates s w j (does j op))).reply) f.found) ∙ is))
+
+pub returns-clause-at_once : goal.returns-clause-at_once
+returns-clause-at_once g c = λ s tells stands is.
+    let before = g.H.Host.state c.args.host.now in
+    let session = c.args.self.now in
+    let w = c.args.word.now in
+    let live = c.in-Some.job.now in
+    let found = sym c.in-Some.ensures.value in
+    let f = found_job before session s w live stands found in
+    let op = c.args.op.now in
+    absurd (told_no_job (does f.plain op).answer (sym (ap (λ (o : Option Job). (of_live o s (λ j. operates s w j (does j op))).reply) f.found) ∙ is))

@@ -1,4 +1,4 @@
-use Rattle.std.proofs.Common.{◌≡◌, ◌∙◌, ℕ, Option, Result, Err, refl, sym, ap, subst}
+use Rattle.std.proofs.Common.{inl, inr, ◌≡◌, ◌∙◌, ℕ, Option, Result, Err, refl, sym, ap, subst}
 use Rattle.std.proofs.lemmas.Result.{err_from_is_err_and}
 use Rattle.std.specs.BTreeMap.{BTreeMap}
 use Rattle.std.specs.Global.{Vec}
@@ -14,14 +14,16 @@ use Rattle.dfs_reply.specs.Text.{text}
 use Rattle.dfs_script.specs.declared.JobWord.{JobWord}
 use Rattle.dfs_job.specs.declared.job.Job.{Job as LiveJob}
 use Rattle.dfs_job.specs.declared.answers.JobPart.{JobPart}
-use Rattle.dfs_job.specs.Job.{Job, after_part}
+use Rattle.dfs_job.specs.Job.{Job, after_part, part_answer}
+use Rattle.dfs_job.specs.Parted.{IsRefusedPart}
+use Rattle.dfs_job.proofs.Refused.{why_no_part}
 use Rattle.dfs_job.specs.Stands.{merges_too_many}
-use Rattle.dfs_session.specs.Session.{live_job, merges, merges_with, of_live, told_of_part}
-use Rattle.dfs_session.specs.Worked.{IsRefused, IsShort, IsWorked, PartPasses, merging}
-use Rattle.dfs_session.proofs.Changing.{answered_worked, changed_stands, fault_worked, found_job, left_basis, no_job, part_passed, part_passes, past_of, so_of_job, was_sound}
-use Rattle.dfs_session.proofs.Handed.{none_unless, part_refused}
+use Rattle.dfs_session.specs.Session.{live_job, merges_with, of_live, told_of_part}
+use Rattle.dfs_session.specs.Worked.{IsError, IsShort, IsWorked, PartPasses, merging}
+use Rattle.dfs_session.proofs.Changing.{answered_worked, changed_stands, fault_worked, found_job, left_basis, no_job, part_passed, part_passes, past_of, so_of_job, was_live, was_sound}
+use Rattle.dfs_session.proofs.Handed.{none_unless, part_error}
 use Rattle.dfs_session.proofs.Selecting.{no_fault}
-use Rattle.dfs_session.proofs.Working.{on_ok, stays_in_memory}
+use Rattle.dfs_session.proofs.Working.{on_ok_by, stays_in_memory}
 use Rattle.dfs_session.proofs.session.Session.part.Goals as goal
 
 pub part-requires : goal.part-requires
@@ -53,7 +55,7 @@ returns-in_err-answer-clause-worked g c =
     let p = err_from_is_err_and c.from_residual.result c.from_residual.ensures.1 in
     let same : c.from_residual.result ≡ Err fault = p.1 ∙ ap Err p.2 in
     subst (λ (r : Result (Vec ℕ) Fault). IsWorked work before after session (record session { jobs = c.get_mut.follows.lender x }) r) (sym same)
-    (fault_worked before after session w live c.requires found c.part.ensures.only x (c.get_mut.follows.lender x) (c.get_mut.follows.holds x).0 work fault
+    (fault_worked before after session w live c.requires found c.part.ensures.only x (c.get_mut.follows.lender x) (c.get_mut.follows.holds x).0 work fault refl
     (subst (λ (r : Result JobPart Fault). HasFaultCause before after r) was c.part.ensures.cause) (λ is. so_of_job session w live merges_too_many found (c.part.ensures.full (was ∙ is))) (past_of before after session w live c.requires found x c.part.ensures.settings c.part.ensures.past) (λ some. sym was ∙ c.part.ensures.refuses some)
     (λ s tells stands is.
     let f = found_job before session s w live stands found in
@@ -90,12 +92,39 @@ returns-clause-too_many g c = λ s tells stands many.
     let before = g.H.Host.state c.args.host.now in
     let session = c.args.self.now in
     let w = c.args.word.now in
-    let part = c.args.part in
     let live = c.in-Some.job.now in
     let found = sym c.in-Some.ensures.value in
     let f = found_job before session s w live stands found in
+    on_ok_by c.text_of-2.result ⊥ ⊥ (λ never. never) (absurd (c.in_ok-answer.ensures.too_many f.plain tells f.is (part_passes before before session w live c.requires found s f c.args.part many)))
+
+pub returns-in_default-clause-at_once : goal.returns-in_default-clause-at_once
+returns-in_default-clause-at_once g c = λ s tells stands is. (c.text_of.ensures.memory, refl)
+
+pub returns-in_err-answer-clause-at_once : goal.returns-in_err-answer-clause-at_once
+returns-in_err-answer-clause-at_once g c = λ s tells stands is.
+    let before = g.H.Host.state c.args.host.now in
+    let session = c.args.self.now in
+    let w = c.args.word.now in
+    let live = c.in-Some.job.now in
+    let found = sym c.in-Some.ensures.value in
+    let f = found_job before session s w live stands found in
+    let refused = part_error (part_answer f.plain c.args.part) (subst IsError (ap (λ (o : Option Job). (of_live o s (λ j. merges_with s w j c.args.part)).reply) f.found) is) in
+    let fit = (was_live before before session w live c.requires found).fit in
+    let was = c.in_err-answer.was in
+    elim (why_no_part before live f.plain c.args.part fit f.is refused) [
+      | inl none ↦ absurd (cc (c.part.ensures.no_plan.1 none, was))
+      | inr (inl past) ↦ absurd (cc (c.part.ensures.range.1 past, was))
+      | inr (inr merged) ↦ absurd (cc (c.part.ensures.done.1 merged, was))
+    ]
+
+pub returns-clause-at_once : goal.returns-clause-at_once
+returns-clause-at_once g c = λ s tells stands is.
+    let before = g.H.Host.state c.args.host.now in
+    let session = c.args.self.now in
+    let w = c.args.word.now in
+    let live = c.in-Some.job.now in
+    let found = sym c.in-Some.ensures.value in
+    let f = found_job before session s w live stands found in
+    let refused = part_error (part_answer f.plain c.args.part) (subst IsError (ap (λ (o : Option Job). (of_live o s (λ j. merges_with s w j c.args.part)).reply) f.found) is) in
     let of = c.in_ok-answer.ensures in
-    let answer = c.in_ok-answer.answer in
-    let refused = part_refused answer (of.too_many f.plain tells f.is (part_passes before before session w live c.requires found s f part many)) in
-    let said : (merges s w part).reply ≡ told_of_part answer = ap (λ (o : Option Job). (of_live o s (λ j. merges_with s w j part)).reply) f.found ∙ ap told_of_part (sym (of.answer f.plain tells f.is)) in
-    on_ok c.text_of-2.result (IsRefused (merges s w part).reply) (subst IsRefused (sym said) refused)
+    (c.text_of-2.ensures.memory, (of.refused (subst IsRefusedPart (sym (of.answer f.plain tells f.is)) refused)).1)

@@ -1,20 +1,20 @@
 use Rattle.std.proofs.Common.{◌≡◌, ◌∙◌, true, false, Option, length, refl, sym, ap, subst, arith}
 use Rattle.std.proofs.lemmas.Bool.{le-leb, lt-leb}
-use Rattle.std.specs.Prelude.{nat_le, is_some, OnOk}
+use Rattle.std.specs.Prelude.{nat_le, is_some}
 use Rattle.dfs_host.proofs.Causes.{none_yet}
 use Rattle.dfs_reply.specs.declared.Reply.TheVariants.{Error}
 use Rattle.dfs_reply.specs.declared.Word.TheVariants as word
 use Rattle.dfs_job.specs.Job.{Job}
 use Rattle.dfs_session.specs.Selected.{is_listed}
 use Rattle.dfs_job.specs.declared.job.Job.{Job as LiveJob}
-use Rattle.dfs_session.specs.Session.{Step, live_job, of_live, publishes, publishes_for}
+use Rattle.dfs_session.specs.Session.{Step, live_job, of_live, publishes}
 use Rattle.dfs_session.specs.Sound.{listed_in, live_in}
-use Rattle.dfs_session.specs.Worked.{IsRefused, PublicationPasses, publishing, publishing_anew}
+use Rattle.dfs_session.specs.Worked.{IsError, PublicationPasses, publishing, publishing_anew}
 use Rattle.dfs_session.proofs.Changing.{no_job, found_job, some_of, none_of}
-use Rattle.dfs_session.proofs.Choosing.{publishes_as, publishes_as_anew, any_found, after_reads}
+use Rattle.dfs_session.proofs.Choosing.{publishes_as, publishes_as_anew, any_found, after_reads, not_refused}
 use Rattle.dfs_host.proofs.Moments.{reads_nothing}
 use Rattle.dfs_session.proofs.Lists.{lent_some}
-use Rattle.dfs_session.proofs.Working.{on_ok, on_ok_by, stays_in_memory}
+use Rattle.dfs_session.proofs.Working.{stays_in_memory}
 use Rattle.dfs_session.proofs.session.Session.publish.Goals as goal
 
 pub returns-then-not-contains_key-clause-worked : goal.returns-then-not-contains_key-clause-worked
@@ -67,12 +67,13 @@ returns-clause-worked g c =
     let few : false ≡ nat_le 4096 (length (listed_in session)) = sym (lt-leb 4096 (length (listed_in session)) (omega (arith, c.if-count-ge-MOST_PUBLICATIONS.false, c.count.ensures.count))) in
     after_reads host host after session c.publish_anew.new.self (publishing w name) (publishing_anew w name) c.publish_anew.result c.requires (reads_nothing host) (none_yet host)
     (λ s tells stands. publishes_as_anew host session s w live.0 name stands (found_job host session s w live.0 stands live.1) anew few) (λ s. refl) (λ t. refl)
-    c.publish_anew.ensures.worked (λ quiet. absurd quiet) refl refl (λ s many. many)
+    c.publish_anew.ensures.worked (λ quiet. absurd quiet) refl refl
+    (λ s tells stands many. (not_refused session s w name stands (found_job host session s w live.0 stands live.1) anew few, many)) refl
 
 pub returns-then-not-contains_key-clause-too_many : goal.returns-then-not-contains_key-clause-too_many
 returns-then-not-contains_key-clause-too_many g c = λ s tells stands many.
     let w = c.args.word.now in
-    absurd (subst (λ (o : Option LiveJob). PublicationPasses o (live_job s w)) (none_of (live_in c.args.self.now w) (sym c.if-not-contains_key.ensures)) many)
+    absurd (subst (λ (o : Option LiveJob). PublicationPasses o (live_job s w)) (none_of (live_in c.args.self.now w) (sym c.if-not-contains_key.ensures)) many.1)
 
 pub returns-then-is_some-clause-too_many : goal.returns-then-is_some-clause-too_many
 returns-then-is_some-clause-too_many g c = λ s tells stands many.
@@ -80,11 +81,9 @@ returns-then-is_some-clause-too_many g c = λ s tells stands many.
     let host = g.H.Host.state c.args.host.now in
     let w = c.args.word.now in
     let name = c.args.name in
-    let result = c.text_of-then-is_some.result in
     let live = some_of (live_in session w) (sym c.if-not-contains_key.ensures) in
     let taken : true ≡ is_listed (listed_in session) name = c.if-is_some.ensures ∙ sym (lent_some c.find.result) ∙ ap is_some c.find.ensures in
-    subst (λ (t : Step). OnOk result (IsRefused t.reply)) (sym (publishes_as host session s w live.0 name stands (found_job host session s w live.0 stands live.1) true (nat_le 4096 (length (listed_in session))) taken refl))
-    (on_ok result (Unit {0}) tt)
+    absurd (many.0 (subst (λ (t : Step). IsError t.reply) (sym (publishes_as host session s w live.0 name stands (found_job host session s w live.0 stands live.1) true (nat_le 4096 (length (listed_in session))) taken refl)) tt))
 
 pub returns-then-count-ge-MOST_PUBLICATIONS-clause-too_many : goal.returns-then-count-ge-MOST_PUBLICATIONS-clause-too_many
 returns-then-count-ge-MOST_PUBLICATIONS-clause-too_many g c = λ s tells stands many.
@@ -92,12 +91,30 @@ returns-then-count-ge-MOST_PUBLICATIONS-clause-too_many g c = λ s tells stands 
     let host = g.H.Host.state c.args.host.now in
     let w = c.args.word.now in
     let name = c.args.name in
-    let result = c.text_of-then-count-ge-MOST_PUBLICATIONS.result in
     let live = some_of (live_in session w) (sym c.if-not-contains_key.ensures) in
     let anew : false ≡ is_listed (listed_in session) name = c.if-is_some.ensures ∙ sym (lent_some c.find.result) ∙ ap is_some c.find.ensures in
     let full : true ≡ nat_le 4096 (length (listed_in session)) = sym (le-leb 4096 (length (listed_in session)) (omega (arith, c.if-count-ge-MOST_PUBLICATIONS.true, c.count.ensures.count))) in
-    subst (λ (t : Step). OnOk result (IsRefused t.reply)) (sym (publishes_as host session s w live.0 name stands (found_job host session s w live.0 stands live.1) false true anew full))
-    (on_ok result (Unit {0}) tt)
+    absurd (many.0 (subst (λ (t : Step). IsError t.reply) (sym (publishes_as host session s w live.0 name stands (found_job host session s w live.0 stands live.1) false true anew full)) tt))
 
 pub returns-clause-too_many : goal.returns-clause-too_many
-returns-clause-too_many g c = λ s tells stands many. on_ok_by c.publish_anew.result ⊥ (IsRefused (publishes_for s c.args.word.now c.args.name).reply) (λ never. absurd never) (c.publish_anew.ensures.too_many s tells stands many)
+returns-clause-too_many g c = λ s tells stands many. c.publish_anew.ensures.too_many s tells stands many.1
+
+pub returns-then-not-contains_key-clause-at_once : goal.returns-then-not-contains_key-clause-at_once
+returns-then-not-contains_key-clause-at_once g c = λ s tells stands is. (c.text_of.ensures.memory, refl)
+
+pub returns-then-is_some-clause-at_once : goal.returns-then-is_some-clause-at_once
+returns-then-is_some-clause-at_once g c = λ s tells stands is. (c.text_of-then-is_some.ensures.memory, refl)
+
+pub returns-then-count-ge-MOST_PUBLICATIONS-clause-at_once : goal.returns-then-count-ge-MOST_PUBLICATIONS-clause-at_once
+returns-then-count-ge-MOST_PUBLICATIONS-clause-at_once g c = λ s tells stands is. (c.text_of-then-count-ge-MOST_PUBLICATIONS.ensures.memory, refl)
+
+pub returns-clause-at_once : goal.returns-clause-at_once
+returns-clause-at_once g c = λ s tells stands is.
+    let session = c.args.self.now in
+    let host = g.H.Host.state c.args.host.now in
+    let w = c.args.word.now in
+    let name = c.args.name in
+    let live = some_of (live_in session w) (sym c.if-not-contains_key.ensures) in
+    let anew : false ≡ is_listed (listed_in session) name = c.if-is_some.ensures ∙ sym (lent_some c.find.result) ∙ ap is_some c.find.ensures in
+    let few : false ≡ nat_le 4096 (length (listed_in session)) = sym (lt-leb 4096 (length (listed_in session)) (omega (arith, c.if-count-ge-MOST_PUBLICATIONS.false, c.count.ensures.count))) in
+    absurd (not_refused session s w name stands (found_job host session s w live.0 stands live.1) anew few is)

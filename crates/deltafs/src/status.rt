@@ -26,7 +26,7 @@ pub enum Status {
     SourceFault,
     /// No memory was found.
     NoMemory,
-    /// The log of a job would pass its limit.
+    /// The log of a job would pass its limit, or a run would need more than 131,072 tables.
     LogFull,
     /// The limit was taken of the script, and its end had not come.
     ScriptTooLong,

@@ -5,7 +5,7 @@ pub struct Settings {
     pub buffer: u32,
     /// How many look-ups are kept: 1 to 65,536.
     pub cache: u32,
-    /// How many parts a plan has where none are asked for: 1 to 256.
+    /// How many parts a plan has where none are asked for, and a publication of several layers: 1 to 256.
     pub parts: u16,
     /// How many bytes a log has at most: 4,096 to 1,099,511,627,776.
     pub log_bytes: u64,

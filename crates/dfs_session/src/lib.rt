@@ -1,9 +1,11 @@
 //! The session of a script: the registry, the live jobs, and what each line does to them.
 //!
 //! `Session::open` reads the registry of a host, and `Session::step` works one line and answers its reply. Both speak of the plain
-//! session of specs/Session, in which a publication is a name with a change set and a job is a list of records over the change
-//! sets that it selected. specs/Files says what the files of a host stand for, specs/Stands when a session in memory stands for a
-//! plain one, specs/Run what a whole script writes.
+//! session of specs/Session: publications with their change sets, settings, and the plain jobs of `dfs_job`. The layer above has the
+//! reply, the session after the line, what files and images stand for, and each answer's cause (specs/Worked). specs/Files says what
+//! files stand for, specs/Stands and specs/Sound when a session stands for a plain one and what is so of all, specs/Kept and
+//! specs/Places what begins keep and where it lies, specs/Run what a script writes, specs/Isolation and specs/Room what jobs are told
+//! and need.
 #![tactic(auto)]
 
 ghost use Rattle.dfs_session.specs.Isolation.{IsIsolated};

@@ -147,7 +147,3 @@ module _ (command : Option Command) (old : Registry) (host : HostState) (source 
 -- nothing was taken
 pub prompt_idle : (old : Registry) (script said : List ℕ) → IsPrompt old script script said
 prompt_idle old script said = record { earlier = []; piece = []; more = said; whole = refl; short = omega arith; said_earlier = refl }
-
--- no call was made
-pub shut_idle : (host : HostState) → IsSettled (host.disk.files 0) → ChangesOnly 0 (λ bytes. reading bytes ≡ reading (bytes_of host 0)) host host
-shut_idle host settled = nothing_done host (λ bytes left. ap reading (left_when_settled settled bytes left))

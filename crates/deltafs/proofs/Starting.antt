@@ -49,3 +49,12 @@ says_unopened command reg.NotRegistry old script said files host opens value sil
 says_unopened command (reg.Damaged place) old script said files host opens value silent stands = absurd (some_none old (sym value ∙ ap (value_read (bytes_of host)) opens))
 says_unopened command reg.NoMemory old script said files host opens value silent stands = says_nothing command old script said files silent stands
 says_unopened command reg.Disk old script said files host opens value silent stands = says_failed command old script said files silent stands
+
+-- files that stand for no registry
+pub is_shut : (files : ℕ → List ℕ) → value files ≡ None → IsShut (reading (files 0))
+is_shut files none = by (reading (files 0)) none
+  where
+    by : (r : Reading) → value_read files r ≡ None → IsShut r
+    by (listing ls) none = absurd (some_none _ none)
+    by not_a_registry none = tt
+    by (damaged place) none = tt

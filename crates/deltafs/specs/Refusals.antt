@@ -1,9 +1,7 @@
 -- Runs that are refused.
-use Rattle.std.specs.Prelude.{◌≡◌, None}
-use Rattle.dfs_host.specs.Host.{HostState, ChangesOnly, bytes_of, said_of}
+use Rattle.std.specs.Prelude.{◌≡◌}
+use Rattle.dfs_host.specs.Host.{HostState, OnlyReads}
 use Rattle.dfs_host.specs.Source.{SourceState}
-use Rattle.dfs_session.specs.Files.{value_on}
-use Rattle.dfs_registry.specs.Reading.{registry as reading}
 use Rattle.dfs_registry.specs.declared.fault.RegFault.{RegFault}
 use Rattle.dfs_registry.specs.declared.fault.RegFault.TheVariants as reg
 use Rattle.deltafs.specs.declared.status.Status.{Status}
@@ -29,9 +27,7 @@ status_of (reg.Damaged place) = RegistryDamaged place
 status_of reg.NoMemory = NoMemory
 status_of reg.Disk = DiskFault
 
--- Nothing was taken or said, no file but file 0 was written, and what that means stayed, in each image since the start too.
+-- Nothing was taken, written or said.
 pub record StaysShut (host host_after : HostState) (source source_after : SourceState) : Type 0 where
-  pub said : said_of host_after ≡ said_of host
   pub untaken : source_after ≡ source
-  pub value : value_on host_after ≡ None
-  pub only : ChangesOnly 0 (λ bytes. reading bytes ≡ reading (bytes_of host 0)) host host_after
+  pub only : OnlyReads host host_after

@@ -7,11 +7,11 @@ use Rattle.std.specs.Global.{Vec}
 use Rattle.std.specs.List.{AllByRecursion, AllZip}
 use Rattle.dfs_host.specs.Counts.{Rose}
 use Rattle.dfs_host.specs.Fault.{HasFaultCause, NoFault}
-use Rattle.dfs_host.specs.Host.{HostState, LeavesOnly, Only, SaysNothing, HasDiskCause}
+use Rattle.dfs_host.specs.Host.{HostState, LeavesOnly, Only, HasDiskCause}
 use Rattle.dfs_host.specs.declared.fault.Failed.{Failed}
 use Rattle.dfs_host.specs.declared.fault.Fault.{Fault}
 use Rattle.dfs_host.specs.declared.fault.Fault.TheVariants.{NoMemory, Disk, LogFull, Changed}
-use Rattle.dfs_host.proofs.Moments.{silent_only}
+use Rattle.dfs_host.proofs.Moments.{}
 use Rattle.dfs_record.specs.declared.SnapName.{SnapName}
 use Rattle.dfs_record.specs.Delta.{Delta}
 use Rattle.dfs_change.specs.declared.change.Change.{Change}
@@ -57,17 +57,17 @@ is_disk_fault : {T : Type 0} (fault : Fault) → ◌≡◌ {A = Result T Fault} 
 is_disk_fault fault is = subst OnDiskFault is tt
 
 -- a line that a device call failed in
-pub disk_worked : (before after : HostState) (old new : LiveSession) (work : Work) → SaysNothing before after → HasFaultCause {T = Vec ℕ} before after (Err Disk) → has_refused new ≡ false
+pub disk_worked : (before after : HostState) (old new : LiveSession) (work : Work) → OnlyThese (work.writes old) before after → HasFaultCause {T = Vec ℕ} before after (Err Disk) → has_refused new ≡ false
     → ((s : Session) → IsTrue before.tells → Stands before old s → LeavesOnly (HoldsEither s.registry (work.step s).session.registry) before after)
     → IsWorked work before after old new (Err Disk)
-disk_worked before after old new work silent cause refused images = record {
+disk_worked before after old new work writes cause refused images = record {
   sound = tt;
   settings = tt;
   reply = λ s tells stands. tt;
   stands = λ s tells stands. tt;
   value = λ s tells stands. tt;
   images = images;
-  silent = silent;
+  writes = writes;
   cause = cause;
   full = full_by (Err Disk) (work.many old) new (is_disk_fault LogFull) refused;
   passes = λ s tells stands is. absurd (is_disk_fault LogFull is);
@@ -77,12 +77,12 @@ disk_worked before after old new work silent cause refused images = record {
 }
 
 -- a line that found no memory
-pub no_memory_worked : (before after : HostState) (old new : LiveSession) (work : Work) → SaysNothing before after → NoFault before after → has_refused new ≡ false → new.settings ≡ work.settings old.settings
+pub no_memory_worked : (before after : HostState) (old new : LiveSession) (work : Work) → OnlyThese (work.writes old) before after → NoFault before after → has_refused new ≡ false → new.settings ≡ work.settings old.settings
     → ((s : Session) → IsTrue before.tells → Stands before old s → value_on after ≡ Some s.registry) → ((s : Session) → IsTrue before.tells → Stands before old s → (work.step s).session.registry ≡ s.registry)
     → ((s : Session) → IsTrue before.tells → Stands before old s → LeavesOnly (HoldsEither s.registry (work.step s).session.registry) before after)
     → IsWorked work before after old new (Err NoMemory)
-no_memory_worked before after old new work silent none refused settings value same images =
-    worked_by_memory before after old new work (Err NoMemory) refl silent none refused settings tt (λ s tells stands. tt) (λ s tells stands. tt) value same images (λ quiet. tt) tt
+no_memory_worked before after old new work writes none refused settings value same images =
+    worked_by_memory before after old new work (Err NoMemory) refl writes none refused settings tt (λ s tells stands. tt) (λ s tells stands. tt) value same images (λ quiet. tt) tt
 
 -- the cause of a call on the disk that failed, and of one that did not
 pub failed_cause : {T U : Type 0} {before after : HostState} (result : Result T Failed) (failed : Failed) → result ≡ Err failed → HasDiskCause before after result → after.reads ≡ before.reads → HasFaultCause {T = U} before after (Err Disk)
@@ -224,7 +224,7 @@ module _ (before after : HostState) (session : LiveSession) (sound : IsSound bef
     pub begun_worked : (basis : List Delta) (bytes : Vec ℕ) → (IsTrue before.tells → JobStands after job (begun number basis session.settings)) → NoFault before after → after.reads ≡ before.reads → bytes.items ≡ text (JobReply number)
         → IsWorked (beginning_over word names basis) before after session begun_session (Ok bytes)
     begun_worked basis bytes job_stands none reads says =
-        worked_by_memory before after session begun_session (beginning_over word names basis) (Ok bytes) tt (silent_only only) none (sound_refused begun_session begun_sound.memory) refl begun_sound
+        worked_by_memory before after session begun_session (beginning_over word names basis) (Ok bytes) tt (one_of_these (next_written session) only) none (sound_refused begun_session begun_sound.memory) refl begun_sound
         (λ s tells stands. says ∙ ap (λ (n : ℕ). text (JobReply (n + 1))) (sym stands.greatest))
         (λ s tells stands. begun_stands basis s (job_stands tells) tells stands)
         (λ s tells stands. begun_value s tells stands)

@@ -12,7 +12,7 @@ use Rattle.dfs_host.specs.Host.{HostState, LeavesOnly, Only, bytes_of}
 use Rattle.dfs_host.specs.declared.fault.Fault.{Fault}
 use Rattle.dfs_host.specs.declared.fault.Fault.TheVariants.{NoMemory, Disk, LogFull, Changed}
 use Rattle.dfs_host.proofs.Causes.{none_yet}
-use Rattle.dfs_host.proofs.Moments.{silent_only, silent_reads, reads_nothing}
+use Rattle.dfs_host.proofs.Moments.{reads_nothing}
 use Rattle.dfs_registry.specs.Body.{lists_job}
 use Rattle.dfs_registry.specs.Standing.{RegistryStands}
 use Rattle.dfs_reply.specs.declared.Reply.TheVariants.{Ok as OkReply}
@@ -255,17 +255,17 @@ module _ (before after : HostState) (session : LiveSession) (word : JobWord) (li
       }
 
       -- a call on the job that met a fault
-      pub fault_worked : {T : Type 0} (work : Work) (fault : Fault) → work.log (jobs_of changed) ≡ refused_of (jobs_of changed) word → HasFaultCause {T = T} before after (Err fault) → (IsErrOf {T = T} (Err fault) LogFull → (0 < new.layers.log.refused) ⊎ IsTrue (work.many session)) → IsPast new → (0 < new.layers.log.refused → IsErrOf {T = T} (Err fault) LogFull)
+      pub fault_worked : {T : Type 0} (work : Work) (fault : Fault) → work.log (jobs_of changed) ≡ refused_of (jobs_of changed) word → work.writes session live.ids.job ≡ true → HasFaultCause {T = T} before after (Err fault) → (IsErrOf {T = T} (Err fault) LogFull → (0 < new.layers.log.refused) ⊎ IsTrue (work.many session)) → IsPast new → (0 < new.layers.log.refused → IsErrOf {T = T} (Err fault) LogFull)
           → ((s : Session) → IsTrue before.tells → Stands before session s → fault ≡ LogFull → IsShort (work.job s))
           → ((s : Session) → IsTrue before.tells → Stands before session s → fault ≡ LogFull → (0 < new.layers.log.refused) ⊎ work.passes s session) → IsWorked work before after session changed (Err fault)
-      fault_worked {T} work fault logged cause full past refused short passes = record {
+      fault_worked {T} work fault logged written cause full past refused short passes = record {
         sound = tt;
         settings = tt;
         reply = λ s tells stands. tt;
         stands = λ s tells stands. tt;
         value = λ s tells stands. leaves fault s.registry (work.step s).session.registry (value_on after) (own_value s tells stands);
         images = λ s tells stands. own_job_images s (work.step s).session.registry tells stands;
-        silent = silent_only only;
+        writes = one_of_these written only;
         cause = handed_cause fault (none_yet before) cause;
         full = subst (λ (b : Bool). IsFullWhere {T = Vec ℕ} (Err fault) b (work.many session) changed) (sym logged) (full_with (Err fault) (work.many session) (λ is. full (ap Err (ap fault_or is))) past (λ some. ap Err (ap (fault_or {T = T}) (refused some))));
         passes = λ s tells stands is. elim (passes s tells stands (ap fault_or is)) [ inl holds ↦ inl (logged ∙ log_refused holds) | inr many ↦ inr many ];
@@ -285,11 +285,11 @@ module _ (before after : HostState) (session : LiveSession) (word : JobWord) (li
           → JobIsSound after new → new.ids.job ≡ live.ids.job → LeavesBasis live new
           → ((s : Session) (f : Found before s word live) → work.step s ≡ next s f) → ((s : Session) (f : Found before s word live) → (next s f).session.registry ≡ s.registry)
           → ((s : Session) (f : Found before s word live) → IsTrue before.tells → IfOk result (λ bytes. bytes.items ≡ text (next s f).reply))
-          → ((s : Session) (f : Found before s word live) → IsTrue before.tells → Stands before session s → Stands after changed (next s f).session) → OnlyMemory result → (work.quiet session → ⊥) → IsWorked work before after session changed result
-      answered_worked work next result none unrefused given is same basis stepped kept says stood memory loud =
+          → ((s : Session) (f : Found before s word live) → IsTrue before.tells → Stands before session s → Stands after changed (next s f).session) → OnlyMemory result → (work.quiet session → ⊥) → work.writes session live.ids.job ≡ true → IsWorked work before after session changed result
+      answered_worked work next result none unrefused given is same basis stepped kept says stood memory loud written =
           let new_sound = changed_sound is same basis in
           let found_in : (s : Session) → Stands before session s → Found before s word live = λ s stands. found_job before session s word live stands found in
-          worked_by_memory before after session changed work result memory (silent_only only) none (still_unrefused unrefused) given (on_ok result (IsSound after changed) new_sound)
+          worked_by_memory before after session changed work result memory (one_of_these written only) none (still_unrefused unrefused) given (on_ok result (IsSound after changed) new_sound)
           (λ s tells stands. let f = found_in s stands in subst (λ (t : Step). IfOk result (λ bytes. bytes.items ≡ text t.reply)) (sym (stepped s f)) (says s f tells))
           (λ s tells stands. let f = found_in s stands in subst (λ (t : Step). OnOk result (Stands after changed t.session)) (sym (stepped s f)) (on_ok result (Stands after changed (next s f).session) (stood s f tells stands)))
           (λ s tells stands. own_value s tells stands)
@@ -326,7 +326,7 @@ ended_worked host session word live jobs kept result sound found gone ended says
       kept = λ tells. each_ended (IsOwn host) session.kept kept (number_of live) ended (sound.kept tells);
     } in
     let stepped : (s : Session) (f : Found host s word live) → ends s word ≡ record { session = record s { jobs = remove_entry test s.jobs }; reply = OkReply } = λ s f. ap (λ (o : Option Job). of_live o s (λ j. record { session = record s { jobs = remove_entry test s.jobs }; reply = OkReply })) f.found in
-    worked_by_memory host host session new (plain (λ s. ends s word)) result memory (silent_reads (reads_nothing host)) (none_yet host) (sound_refused new new_sound.memory) refl (on_ok result (IsSound host new) new_sound)
+    worked_by_memory host host session new (plain (λ s. ends s word)) result memory (reads_these (reads_nothing host)) (none_yet host) (sound_refused new new_sound.memory) refl (on_ok result (IsSound host new) new_sound)
     (λ s tells stands. subst (λ (t : Step). IfOk result (λ bytes. bytes.items ≡ text t.reply)) (sym (stepped s (found_job host session s word live stands found))) says)
     (λ s tells stands.
     subst (λ (t : Step). OnOk result (Stands host new t.session)) (sym (stepped s (found_job host session s word live stands found)))

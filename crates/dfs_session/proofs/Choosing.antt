@@ -11,7 +11,6 @@ use Rattle.dfs_host.specs.Host.{HostState, LeavesOnly, OnlyReads, bytes_of}
 use Rattle.dfs_host.specs.declared.fault.Fault.{Fault}
 use Rattle.dfs_host.specs.declared.fault.Fault.TheVariants.{NoMemory, Disk, LogFull, Changed}
 use Rattle.dfs_host.proofs.Causes.{none_yet, cause_of_last}
-use Rattle.dfs_host.proofs.Moments.{silent_reads, silent_on}
 use Rattle.dfs_record.specs.declared.SnapName.{SnapName}
 use Rattle.dfs_registry.specs.declared.listed.Listed.{Listed}
 use Rattle.dfs_registry.specs.Body.{has_name, lists_name}
@@ -118,8 +117,8 @@ begins_no_error host session s w names stands is_live is_full_so is_listed_so is
 
 pub after_reads : (before mid after : HostState) (session new : LiveSession) (does did : Work) (result : Result (Vec ℕ) Fault) → IsSound before session → OnlyReads before mid → NoFault before mid
     → ((s : Session) → IsTrue before.tells → Stands before session s → does.step s ≡ did.step s) → ((s : Session) → does.job s ≡ did.job s) → ((t : Settings) → does.settings t ≡ did.settings t) → IsWorked did mid after session new result
-    → (does.quiet session → OnOk result (after.reads ≡ before.reads)) → does.names ≡ did.names → does.many session ≡ did.many session → ((s : Session) → IsTrue before.tells → Stands before session s → did.passes s session → does.passes s session) → does.log (jobs_of new) ≡ did.log (jobs_of new) → IsWorked does before after session new result
-after_reads before mid after session new does did result sound only none same job settings worked reads named many passes logged =
+    → (does.quiet session → OnOk result (after.reads ≡ before.reads)) → does.names ≡ did.names → does.writes session ≡ did.writes session → does.many session ≡ did.many session → ((s : Session) → IsTrue before.tells → Stands before session s → did.passes s session → does.passes s session) → does.log (jobs_of new) ≡ did.log (jobs_of new) → IsWorked does before after session new result
+after_reads before mid after session new does did result sound only none same job settings worked reads named written many passes logged =
     let stands_mid : (s : Session) → IsTrue before.tells → Stands before session s → Stands mid session s = λ s tells stands. stands_read before mid session s only tells stands in
     record {
       sound = worked.sound;
@@ -130,7 +129,7 @@ after_reads before mid after session new does did result sound only none same jo
       images = λ s tells stands.
           images_on before mid after s.registry (does.step s).session.registry (read_images before mid session s (does.step s).session.registry tells sound stands only)
           (subst (λ (t : Step). LeavesOnly (HoldsEither s.registry t.session.registry) mid after) (sym (same s tells stands)) (worked.images s (only.tells ∙ tells) (stands_mid s tells stands)));
-      silent = silent_on (silent_reads only) worked.silent;
+      writes = these_on (reads_these only) (subst (λ (w : ℕ → Bool). OnlyThese w mid after) (sym written) worked.writes);
       cause = cause_of_last none worked.cause result (λ fault is. is) (λ is. is);
       full = subst (λ (b : Bool). IsFullWhere result b (does.many session) new) (sym logged) (subst (λ (b : Bool). IsFullWhere result (did.log (jobs_of new)) b new) (sym many) worked.full);
       passes = λ s tells stands is. elim (worked.passes s (only.tells ∙ tells) (stands_mid s tells stands) is) [ inl holds ↦ inl (logged ∙ holds) | inr many ↦ inr (passes s tells stands many) ];
@@ -150,7 +149,7 @@ read_fault_worked {T} before after session work fault sound only cause full = re
   value = λ s tells stands.
       leaves fault s.registry (work.step s).session.registry (stands_value after session s (only.tells ∙ tells) (sound_reads before after session only sound) (stands_read before after session s only tells stands));
   images = λ s tells stands. read_images before after session s (work.step s).session.registry tells sound stands only;
-  silent = silent_reads only;
+  writes = reads_these only;
   cause = handed_cause fault (none_yet before) cause;
   full = full_by (Err fault) (work.many session) session (λ is. full (ap fault_or is)) (sound_refused session sound.memory);
   passes = λ s tells stands is. absurd (full (ap fault_or is));

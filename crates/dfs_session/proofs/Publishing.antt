@@ -13,7 +13,7 @@ use Rattle.dfs_host.specs.Host.{HostState, Only, bytes_of, LeavesOnly, ChangesOn
 use Rattle.dfs_host.specs.declared.fault.Fault.{Fault}
 use Rattle.dfs_host.specs.declared.fault.Fault.TheVariants.{NoMemory, Disk, LogFull, Changed}
 use Rattle.dfs_host.proofs.Files.{left_when_settled}
-use Rattle.dfs_host.proofs.Moments.{silent_only, silent_on, widened}
+use Rattle.dfs_host.proofs.Moments.{widened}
 use Rattle.dfs_record.specs.KeyMap.{len}
 use Rattle.dfs_record.specs.Name.{is_between}
 use Rattle.dfs_change.specs.declared.change.Change.{Change}
@@ -143,7 +143,7 @@ module _ (before mid after : HostState) (session : LiveSession) (word : JobWord)
     stands = λ s tells stands. tt;
     value = λ s tells stands. leaves fault refl s.registry (publishing s).session.registry (own_value before mid session word live sound found sealing s tells stands);
     images = publishing_images;
-    silent = silent_on (silent_only sealing) (silent_only listing);
+    writes = these_on (one_of_these (log_written session word live found) sealing) (one_of_these refl listing);
     cause = handed_cause fault none cause;
     full = full_by (Err fault) (job_is publishes_too_many (live_in session word)) new (λ is. full (ap fault_or is)) refused;
     passes = λ s tells stands is. absurd (full (ap fault_or is));
@@ -297,7 +297,7 @@ module _ (before mid after : HostState) (session : LiveSession) (word : JobWord)
         stands = stands_now;
         value = λ s tells stands. stands_value after published_session (does s).session (listing.tells ∙ sealing.tells ∙ tells) published_sound (stands_now s tells stands);
         images = publishing_images before mid after session word live sound found sealing listing listed same_job writing changes settled;
-        silent = silent_on (silent_only sealing) (silent_only listing);
+        writes = these_on (one_of_these (log_written session word live found) sealing) (one_of_these refl listing);
         cause = memory_cause (Ok bytes) none tt;
         full = full_by (Ok bytes) (job_is publishes_too_many (live_in session word)) published_session (ok_never LogFull) (sound_refused published_session published_sound.memory);
         passes = λ s tells stands is. absurd (ok_never LogFull is);

@@ -5,11 +5,11 @@ use Rattle.std.specs.BTreeMap.{BTreeMap}
 use Rattle.std.specs.Global.{Vec}
 use Rattle.std.specs.List.{AllByRecursion, AllZip}
 use Rattle.dfs_host.specs.Fault.{HasFaultCause, NoFault}
-use Rattle.dfs_host.specs.Host.{HostState, LeavesOnly, OnlyReads, SaysNothing}
+use Rattle.dfs_host.specs.Host.{HostState, LeavesOnly, OnlyReads}
 use Rattle.dfs_host.specs.declared.fault.Fault.{Fault}
 use Rattle.dfs_host.specs.declared.fault.Fault.TheVariants.{NoMemory, Disk, LogFull, Changed}
 use Rattle.dfs_host.proofs.Causes.{none_yet}
-use Rattle.dfs_host.proofs.Moments.{silent_reads, reads_nothing}
+use Rattle.dfs_host.proofs.Moments.{reads_nothing}
 use Rattle.dfs_reply.specs.declared.Reply.{Reply}
 use Rattle.dfs_reply.specs.Text.{text}
 use Rattle.dfs_script.specs.declared.JobWord.{JobWord}
@@ -23,6 +23,7 @@ use Rattle.dfs_session.specs.Session.{Session, Step, Registry, stays}
 use Rattle.dfs_session.specs.Sound.{HasItsBegin, IsSound, IsSoundInMemory, IsLive, AreApart, NoneHas, PlainOf, jobs_of, listed_in, number_of}
 use Rattle.dfs_session.specs.Stands.{EntryStands, Stands, LeavesValue}
 use Rattle.dfs_session.specs.Worked.{AreNamed, HasNames, IsWorked, Work, has_refused}
+use Rattle.dfs_session.specs.Writes.{OnlyThese}
 use Rattle.dfs_record.specs.declared.SnapName.{SnapName}
 use Rattle.dfs_session.proofs.Begun.{HasEnded, both_mapped}
 use Rattle.dfs_session.proofs.Lists.{mapped}
@@ -31,6 +32,7 @@ use Rattle.dfs_session.proofs.Images.{read_images}
 use Rattle.dfs_session.proofs.Jobs.{Live}
 use Rattle.dfs_session.proofs.Faults.{sound_refused, full_by}
 use Rattle.dfs_session.proofs.Kept.{sound_reads, stands_read}
+use Rattle.dfs_session.proofs.Writing.{reads_these}
 
 abbrev IsMemory : Fault → Type 0
 IsMemory NoMemory = Unit {0}
@@ -75,7 +77,7 @@ leaves_value (Err LogFull) before after files memory ok same = same
 leaves_value (Err (Changed file at)) before after files memory ok same = same
 
 -- A line that leaves the registry, and meets no fault but want of memory.
-pub worked_by_memory : (before after : HostState) (old new : LiveSession) (work : Work) (result : Result (Vec ℕ) Fault) → OnlyMemory result → SaysNothing before after → NoFault before after
+pub worked_by_memory : (before after : HostState) (old new : LiveSession) (work : Work) (result : Result (Vec ℕ) Fault) → OnlyMemory result → OnlyThese (work.writes old) before after → NoFault before after
     → has_refused new ≡ false → new.settings ≡ work.settings old.settings → OnOk result (IsSound after new)
     → ((s : Session) → IsTrue before.tells → Stands before old s → IfOk result (λ bytes. bytes.items ≡ text (work.step s).reply))
     → ((s : Session) → IsTrue before.tells → Stands before old s → OnOk result (Stands after new (work.step s).session))
@@ -83,7 +85,7 @@ pub worked_by_memory : (before after : HostState) (old new : LiveSession) (work 
     → ((s : Session) → IsTrue before.tells → Stands before old s → (work.step s).session.registry ≡ s.registry)
     → ((s : Session) → IsTrue before.tells → Stands before old s → LeavesOnly (HoldsEither s.registry (work.step s).session.registry) before after)
     → (work.quiet old → OnOk result (after.reads ≡ before.reads)) → OnOk result (AreNamed work.names old new) → IsWorked work before after old new result
-worked_by_memory before after old new work result memory silent none refused settings sound reply stands value same images reads names = record {
+worked_by_memory before after old new work result memory writes none refused settings sound reply stands value same images reads names = record {
   sound = sound;
   settings = on_ok result (new.settings ≡ work.settings old.settings) settings;
   reply = reply;
@@ -92,7 +94,7 @@ worked_by_memory before after old new work result memory silent none refused set
       let is = value s tells stood in
       leaves_value result s.registry (work.step s).session.registry (value_on after) memory (on_ok result (value_on after ≡ Some (work.step s).session.registry) (is ∙ ap Some (sym (same s tells stood)))) is;
   images = images;
-  silent = silent;
+  writes = writes;
   cause = memory_cause result none memory;
   full = full_by result (work.many old) new (λ is_full. it_is_memory result LogFull memory is_full) refused;
   passes = λ s tells stood is_full. absurd (it_is_memory result LogFull memory is_full);
@@ -156,7 +158,7 @@ stays_worked before after session jobs work reply result same given sound only n
     let new : LiveSession = record session { jobs = jobs } in
     let new_sound = same_sound after session jobs same now_sound in
     let stands : (s : Session) → IsTrue before.tells → Stands before session s → Stands after session s = λ s tells stood. stands_read before after session s only tells stood in
-    worked_by_memory before after session new work result memory (silent_reads only) none (sound_refused new new_sound.memory) given (on_ok result (IsSound after new) new_sound)
+    worked_by_memory before after session new work result memory (reads_these only) none (sound_refused new new_sound.memory) given (on_ok result (IsSound after new) new_sound)
     (λ s tells stood. subst (λ (t : Step). IfOk result (λ bytes. bytes.items ≡ text t.reply)) (sym (is s tells stood)) says)
     (λ s tells stood. subst (λ (t : Step). OnOk result (Stands after new t.session)) (sym (is s tells stood)) (on_ok result (Stands after new s) (same_stands after session jobs s same (stands s tells stood))))
     (λ s tells stood. stands_value after session s (only.tells ∙ tells) now_sound (stands s tells stood))

@@ -7,6 +7,7 @@ pub mod Sound
 pub mod Places
 pub mod Stands
 pub mod Worked
+pub mod Writes
 pub mod Selected
 pub mod Taken
 pub mod Images

@@ -1,11 +1,11 @@
 -- What the working of a line does.
-use Rattle.std.specs.Prelude.{◌≡◌, ◌≤◌, ◌<◌, ◌+◌, ◌⊎◌, ℕ, Bool, false, nat_lt, IsTrue, List, map, Option, Some, None, Result, Ok, Err, OnOk, IfErr, IfOk, IsErrOf}
+use Rattle.std.specs.Prelude.{◌≡◌, ◌≤◌, ◌<◌, ◌+◌, ◌⊎◌, ℕ, Bool, false, ◌||◌, nat_eq, nat_lt, IsTrue, List, map, Option, Some, None, Result, Ok, Err, OnOk, IfErr, IfOk, IsErrOf}
 use Rattle.std.specs.BTreeMap.{is_at}
 use Rattle.std.specs.List.{AllByRecursion, list_all, list_any}
 use Rattle.std.specs.Map.{lookup}
 use Rattle.std.specs.Global.{Vec}
 use Rattle.dfs_host.specs.Fault.{HasFaultCause}
-use Rattle.dfs_host.specs.Host.{HostState, Told, LeavesOnly, SaysNothing}
+use Rattle.dfs_host.specs.Host.{HostState, Told, LeavesOnly}
 use Rattle.dfs_host.specs.declared.fault.Fault.{Fault}
 use Rattle.dfs_host.specs.declared.fault.Fault.TheVariants.{LogFull, NoMemory}
 use Rattle.dfs_reply.specs.declared.Reply.{Reply}
@@ -38,6 +38,7 @@ use Rattle.dfs_session.specs.Session.{Session, Step, after_command, after_meanin
 use Rattle.dfs_session.specs.Kept.{begin_in}
 use Rattle.dfs_session.specs.Sound.{IsSound, jobs_of, live_in, number_of}
 use Rattle.dfs_session.specs.Stands.{Stands, LeavesValue}
+use Rattle.dfs_session.specs.Writes.{OnlyThese}
 
 -- the answer of an opening, by what the registry's file stands for
 abbrev pub OpensAs : {T : Type 0} → Reading → Result T RegFault → Type 0
@@ -109,21 +110,39 @@ StaysInMemory result before after = IfErr result (λ fault. fault ≡ NoMemory) 
 -- ---- what a line works
 
 -- What a line does, the job that it works, with what it makes of that job, what it leaves of the settings, the sessions of which it
--- reads nothing, the names that a job selects which it begins, and whether the log of the job refused a piece, whether the run that it merges may need too many tables; and, of
--- the plain session and of the session before and after it, whether that run would pass 131,072 tables.
+-- reads nothing, the names that a job selects which it begins, and, of the session before it, which files it may write; whether the log
+-- of the job refused a piece, whether the run that it merges may need too many tables; and, of the plain session and of the session
+-- before and after it, whether that run would pass 131,072 tables.
 pub record Work : Type 1 where
   pub step : Session → Step
   pub job : Session → Option Job
   pub settings : Settings → Settings
   pub quiet : LiveSession → Type 0
   pub names : Option (List SnapName)
+  pub writes : LiveSession → ℕ → Bool
   pub log : List (JobWord × LiveJob) → Bool
   pub many : LiveSession → Bool
   pub passes : Session → LiveSession → Type 0
 
+-- no file
+abbrev pub none_written : ℕ → Bool
+none_written n = false
+
+-- the log of the next job
+abbrev pub next_log : LiveSession → ℕ → Bool
+next_log session n = nat_eq n (session.greatest + 1)
+
+-- the log of the live job under the word
+abbrev pub own_log : LiveSession → JobWord → ℕ → Bool
+own_log session w n = job_is (λ j. nat_eq n (number_of j)) (live_in session w)
+
+-- the same, and the registry
+abbrev pub log_and_registry : LiveSession → JobWord → ℕ → Bool
+log_and_registry session w n = nat_eq n 0 || own_log session w n
+
 -- a line that no log is written for and that leaves the settings
 abbrev pub plain : (Session → Step) → Work
-plain does = record { step = does; job = λ s. None; settings = λ t. t; quiet = λ session. ⊥; names = None; log = λ jobs. false; many = λ session. false; passes = λ s old. ⊥ }
+plain does = record { step = does; job = λ s. None; settings = λ t. t; quiet = λ session. ⊥; names = None; writes = λ session. none_written; log = λ jobs. false; many = λ session. false; passes = λ s old. ⊥ }
 
 -- each of the names stands in the begin of a live job
 abbrev pub AreSelected : List SnapName → LiveSession → Type 0
@@ -131,11 +150,11 @@ AreSelected names session = IsTrue (list_all (is_selected session) names)
 
 -- a begin reads nothing where each of its names was selected before
 abbrev pub beginning : JobWord → List SnapName → Work
-beginning w names = record (plain (λ s. begins s w names)) { quiet = λ session. AreSelected names session; names = Some names }
+beginning w names = record (plain (λ s. begins s w names)) { quiet = λ session. AreSelected names session; names = Some names; writes = next_log }
 
 -- the same over what was selected, which reads nothing
 abbrev pub beginning_over : JobWord → List SnapName → List Delta → Work
-beginning_over w names basis = record (plain (λ s. begins_over s w basis)) { quiet = λ session. Unit {0}; names = Some names }
+beginning_over w names basis = record (plain (λ s. begins_over s w basis)) { quiet = λ session. Unit {0}; names = Some names; writes = next_log }
 
 abbrev pub setting : Setting → ℕ → Work
 setting what value = record (plain (λ s. sets s what value)) { settings = with_setting what value }
@@ -146,10 +165,10 @@ with_op op None = None
 with_op op (Some j) = Some (after j (does j op))
 
 abbrev pub operating : JobWord → Op → Work
-operating w op = record (plain (λ s. operates_for s w op)) { job = λ s. with_op op (live_job s w); log = λ jobs. refused_of jobs w }
+operating w op = record (plain (λ s. operates_for s w op)) { job = λ s. with_op op (live_job s w); writes = λ session. own_log session w; log = λ jobs. refused_of jobs w }
 
 abbrev pub flushing : JobWord → Work
-flushing w = record (plain (λ s. flushes s w)) { job = λ s. live_job s w; log = λ jobs. refused_of jobs w }
+flushing w = record (plain (λ s. flushes s w)) { job = λ s. live_job s w; writes = λ session. own_log session w; log = λ jobs. refused_of jobs w }
 
 -- the job with a plan more
 abbrev pub with_plan_made : Scope → Option ℕ → Option Job → Option Job
@@ -157,7 +176,7 @@ with_plan_made scope parts None = None
 with_plan_made scope parts (Some j) = Some (after_plan j scope parts)
 
 abbrev pub planning : JobWord → Scope → Option ℕ → Work
-planning w scope parts = record (plain (λ s. plans s w scope parts)) { job = λ s. with_plan_made scope parts (live_job s w); log = λ jobs. refused_of jobs w }
+planning w scope parts = record (plain (λ s. plans s w scope parts)) { job = λ s. with_plan_made scope parts (live_job s w); writes = λ session. own_log session w; log = λ jobs. refused_of jobs w }
 
 -- with this part the run of the job's plan would pass the most tables
 abbrev pub PartPasses : Option LiveJob → Option Job → ℕ → Type 0
@@ -166,7 +185,7 @@ PartPasses (Some live) None part = ⊥
 PartPasses (Some live) (Some j) part = PassesWith live.plan j.plan j part
 
 abbrev pub merging : JobWord → ℕ → Work
-merging w part = record (plain (λ s. merges s w part)) { job = λ s. live_job s w; log = λ jobs. refused_of jobs w; many = λ session. job_is merges_too_many (live_in session w); passes = λ s old. PartPasses (live_in old w) (live_job s w) part }
+merging w part = record (plain (λ s. merges s w part)) { job = λ s. live_job s w; writes = λ session. own_log session w; log = λ jobs. refused_of jobs w; many = λ session. job_is merges_too_many (live_in session w); passes = λ s old. PartPasses (live_in old w) (live_job s w) part }
 
 -- the run of the job's layers, the open one closed, would pass the most tables
 abbrev pub PublicationPasses : Option LiveJob → Option Job → Type 0
@@ -179,11 +198,11 @@ abbrev pub NameIsFree : Session → JobWord → SnapName → Type 0
 NameIsFree s w name = ¬ (IsError (publishes_for s w name).reply)
 
 abbrev pub publishing : JobWord → SnapName → Work
-publishing w name = record (plain (λ s. publishes_for s w name)) { job = λ s. live_job s w; log = λ jobs. refused_of jobs w; many = λ session. job_is publishes_too_many (live_in session w); passes = λ s old. NameIsFree s w name × PublicationPasses (live_in old w) (live_job s w) }
+publishing w name = record (plain (λ s. publishes_for s w name)) { job = λ s. live_job s w; writes = λ session. log_and_registry session w; log = λ jobs. refused_of jobs w; many = λ session. job_is publishes_too_many (live_in session w); passes = λ s old. NameIsFree s w name × PublicationPasses (live_in old w) (live_job s w) }
 
 -- the same under a new name
 abbrev pub publishing_anew : JobWord → SnapName → Work
-publishing_anew w name = record (plain (λ s. of_job s w (λ j. publishes_anew s w j name))) { job = λ s. live_job s w; log = λ jobs. refused_of jobs w; many = λ session. job_is publishes_too_many (live_in session w); passes = λ s old. PublicationPasses (live_in old w) (live_job s w) }
+publishing_anew w name = record (plain (λ s. of_job s w (λ j. publishes_anew s w j name))) { job = λ s. live_job s w; writes = λ session. log_and_registry session w; log = λ jobs. refused_of jobs w; many = λ session. job_is publishes_too_many (live_in session w); passes = λ s old. PublicationPasses (live_in old w) (live_job s w) }
 
 -- the job that a command works
 abbrev pub job_of : Session → Line → Option Job
@@ -241,6 +260,20 @@ names_of (Stats w) = None
 names_of (Publish w name) = None
 names_of (End w) = None
 
+-- the files that a command may write
+abbrev pub writes_of : Line → LiveSession → ℕ → Bool
+writes_of Nothing session = none_written
+writes_of (Set what value) session = none_written
+writes_of Snapshots session = none_written
+writes_of (Begin w names) session = next_log session
+writes_of (Space w op) session = own_log session w
+writes_of (Flush w) session = own_log session w
+writes_of (Plan w scope parts) session = own_log session w
+writes_of (Part w part) session = own_log session w
+writes_of (Stats w) session = none_written
+writes_of (Publish w name) session = log_and_registry session w
+writes_of (End w) session = none_written
+
 -- whether the log of the job that a command works refused a piece
 abbrev pub log_of : Line → List (JobWord × LiveJob) → Bool
 log_of Nothing jobs = false
@@ -284,7 +317,7 @@ passes_of (Publish w name) s old = NameIsFree s w name × PublicationPasses (liv
 passes_of (End w) s old = ⊥
 
 abbrev pub of_command : Line → Work
-of_command line = record { step = λ s. after_command s line; job = λ s. job_of s line; settings = λ t. settings_of t line; quiet = λ session. IsQuiet line session; names = names_of line; log = λ jobs. log_of line jobs; many = λ session. many_of line session; passes = λ s old. passes_of line s old }
+of_command line = record { step = λ s. after_command s line; job = λ s. job_of s line; settings = λ t. settings_of t line; quiet = λ session. IsQuiet line session; names = names_of line; writes = writes_of line; log = λ jobs. log_of line jobs; many = λ session. many_of line session; passes = λ s old. passes_of line s old }
 
 -- the job that a line works, with what it makes of that job
 abbrev pub job_by : Session → Result Line LineFault → Option Job
@@ -304,6 +337,10 @@ abbrev pub names_by : Result Line LineFault → Option (List SnapName)
 names_by (Ok line) = names_of line
 names_by (Err fault) = None
 
+abbrev pub writes_by : Result Line LineFault → LiveSession → ℕ → Bool
+writes_by (Ok line) session = writes_of line session
+writes_by (Err fault) session = none_written
+
 abbrev pub log_by : Result Line LineFault → List (JobWord × LiveJob) → Bool
 log_by (Ok line) jobs = log_of line jobs
 log_by (Err fault) jobs = false
@@ -317,7 +354,7 @@ passes_by (Ok line) s old = passes_of line s old
 passes_by (Err fault) s old = ⊥
 
 abbrev pub of_meaning : Result Line LineFault → Work
-of_meaning line = record { step = λ s. after_meaning s line; job = λ s. job_by s line; settings = λ t. settings_by t line; quiet = λ session. quiet_by line session; names = names_by line; log = λ jobs. log_by line jobs; many = λ session. many_by line session; passes = λ s old. passes_by line s old }
+of_meaning line = record { step = λ s. after_meaning s line; job = λ s. job_by s line; settings = λ t. settings_by t line; quiet = λ session. quiet_by line session; names = names_by line; writes = writes_by line; log = λ jobs. log_by line jobs; many = λ session. many_by line session; passes = λ s old. passes_by line s old }
 
 abbrev pub of_line : List ℕ → Work
 of_line line = of_meaning (meaning line)
@@ -347,7 +384,7 @@ pub record IsWorked (work : Work) (before now : HostState) (old new : LiveSessio
   pub stands : (s : Session) → Told before (Stands before old s → OnOk result (Stands now new (work.step s).session))
   pub value : (s : Session) → Told before (Stands before old s → LeavesValue result s.registry (work.step s).session.registry (value_on now))
   pub images : (s : Session) → Told before (Stands before old s → LeavesOnly (HoldsEither s.registry (work.step s).session.registry) before now)
-  pub silent : SaysNothing before now
+  pub writes : OnlyThese (work.writes old) before now
   pub cause : HasFaultCause before now result
   pub full : IsFullWhere result (work.log (jobs_of new)) (work.many old) new
   pub passes : (s : Session) → Told before (Stands before old s → IsErrOf result LogFull → IsTrue (work.log (jobs_of new)) ⊎ work.passes s old)

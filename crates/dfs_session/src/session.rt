@@ -57,8 +57,8 @@ impl Session {
     ghost use Rattle.std.specs.List.{AllByRecursion, list_all};
     ghost use Rattle.dfs_host.specs.Disk.{IsSettled};
     ghost use Rattle.dfs_host.specs.Fault.{HasFaultCause};
-    ghost use Rattle.dfs_host.specs.Host.{HostState, Told, LeavesOnly, ChangesOnly, OnlyReads, SaysNothing, bytes_of};
-    ghost use Rattle.dfs_registry.specs.Opening.{HasRegCause};
+    ghost use Rattle.dfs_host.specs.Host.{HostState, Told, LeavesOnly, ChangesOnly, Only, OnlyReads, bytes_of};
+    ghost use Rattle.dfs_registry.specs.Opening.{HasRegCause, IsShut};
     ghost use Rattle.dfs_registry.specs.Reading.{registry as reading};
     ghost use Rattle.dfs_reply.specs.Text.{text};
     ghost use Rattle.dfs_script.specs.Valid.{IsLine};
@@ -73,7 +73,8 @@ impl Session {
     ghost use Rattle.dfs_session.specs.Sound.{IsSound, jobs_of};
     ghost use Rattle.dfs_job.specs.Stands.{AreSettings};
     ghost use Rattle.dfs_session.specs.Stands.{Stands, LeavesValue};
-    ghost use Rattle.dfs_session.specs.Worked.{AreNamed, OpensAs, IsPast, IsRefusedAtOnce, IsShort, IsWorked, StaysInMemory, has_refused, job_by, log_by, many_by, names_by, of_command, of_line, passes_by, passes_of, refused_at_once, settings_by};
+    ghost use Rattle.dfs_session.specs.Worked.{AreNamed, OpensAs, IsPast, IsRefusedAtOnce, IsShort, IsWorked, StaysInMemory, has_refused, job_by, log_by, many_by, names_by, of_command, of_line, passes_by, passes_of, refused_at_once, settings_by, writes_by};
+    ghost use Rattle.dfs_session.specs.Writes.{LogsStay, OnlyThese};
 
     /// Opens the registry of a host. Jobs that begin are given the settings.
     pub fn open<H: Host>(
@@ -94,10 +95,12 @@ impl Session {
         // Each image since the start has the registry, also where a device call failed.
         ensures images { (registry : Publications) → Told (H.state host.old) (((file : ℕ) → IsSettled ((H.state host.old).disk.files file)) → value_on (H.state host.old) ≡ Some registry
             → LeavesOnly (Holds registry) (H.state host.old) (H.state host.new)) }
-        // File 0 alone is written, and means what it meant in each image since the start.
-        ensures only { Told (H.state host.old) (IsSettled ((H.state host.old).disk.files 0)
+        // File 0 alone is written, and where it is no registry, or a damaged one, nothing is, whatever the answer.
+        ensures only { Only 0 (H.state host.old) (H.state host.new) }
+        ensures shut { Told (H.state host.old) (IsShut (reading (bytes_of (H.state host.old) 0)) → OnlyReads (H.state host.old) (H.state host.new)) }
+        // It means what it meant in each image since the start.
+        ensures meaning { Told (H.state host.old) (IsSettled ((H.state host.old).disk.files 0)
             → ChangesOnly 0 (λ bytes. reading bytes ≡ reading (bytes_of (H.state host.old) 0)) (H.state host.old) (H.state host.new)) }
-        ensures silent { Told (H.state host.old) (IsSettled ((H.state host.old).disk.files 0) → SaysNothing (H.state host.old) (H.state host.new)) }
         ensures refused { IsErrOf result RegFault.NotRegistry → OnlyReads (H.state host.old) (H.state host.new) }
         ensures broken { (place : ℕ) → IsErrOf result (RegFault.Damaged place) → OnlyReads (H.state host.old) (H.state host.new) }
         ensures cause { HasRegCause (H.state host.old) (H.state host.new) result }
@@ -131,7 +134,9 @@ impl Session {
         ensures images { (s : PlainSession) → Told (H.state host.old) (Stands (H.state host.old) self.old s
             → LeavesOnly (HoldsEither s.registry (step_of s line.now).session.registry) (H.state host.old) (H.state host.new)) }
         ensures durable { (s : PlainSession) → Told (H.state host.old) (Stands (H.state host.old) self.old s → OnOk result (HoldsNow (step_of s line.now).session.registry (H.state host.new))) }
-        ensures silent { SaysNothing (H.state host.old) (H.state host.new) }
+        // No file is written but the log of the line's job and, by a publication, the registry. So the log of no publication is.
+        ensures writes { OnlyThese (writes_by (meaning line.now) self.old) (H.state host.old) (H.state host.new) }
+        ensures logs { (s : PlainSession) → Told (H.state host.old) (Stands (H.state host.old) self.old s → LogsStay s.registry (H.state host.old) (H.state host.new)) }
         ensures cause { HasFaultCause (H.state host.old) (H.state host.new) result }
         // `LogFull` exactly where the log of the line's job refused a piece or the run that the line merges would pass 131,072 tables,
         // but for want of memory and a disk fault; on a host that tells nothing, only where by counts it may need more. And only

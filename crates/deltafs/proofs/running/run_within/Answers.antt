@@ -27,7 +27,7 @@ returns-in-Run-clause-says g c old start =
     let mid = g.H.Host.state c.open.new.host in
     let new = g.H.Host.state c.run_script.new.host in
     let is : command_of c.args.words.now ≡ Some Run = sym c.command_of.ensures ∙ c.in-Some.is ∙ ap Some c.in-Run.is in
-    let kept = (c.open.ensures.silent start.host_tells (start.settled 0)).content start.host_tells in
+    let kept = (silent_only c.open.ensures.only).content start.host_tells in
     let first = opened_first (command_of c.args.words.now) old host source start Run mid c.in-Ok-open.session kept (c.in-Ok-open.ensures.stands old start.host_tells start.settled start.value) (c.open.ensures.value start.host_tells (start.settled 0)) in
     subst (λ k. Says k c.run_script.result old source.rest (g.S.Source.state c.run_script.new.source).rest (said_of new) (value_on new)) (sym is)
     (c.run_script.ensures.says old (c.open.ensures.cause.tells ∙ start.host_tells) (start.source_tells is) (subst (λ (k : Counts). IsAfter Run old [] mid k c.in-Ok-open.session) (sym c.new-summary.ensures) first))
@@ -39,7 +39,7 @@ returns-in-Run-clause-images g c old start =
     let mid = g.H.Host.state c.open.new.host in
     let command = command_of c.args.words.now in
     let is : command ≡ Some Run = sym c.command_of.ensures ∙ c.in-Some.is ∙ ap Some c.in-Run.is in
-    let kept = (c.open.ensures.silent start.host_tells (start.settled 0)).content start.host_tells in
+    let kept = (silent_only c.open.ensures.only).content start.host_tells in
     let first = opened_first command old host source start Run mid c.in-Ok-open.session kept (c.in-Ok-open.ensures.stands old start.host_tells start.settled start.value) (c.open.ensures.value start.host_tells (start.settled 0)) in
     goes_on (opening command old host source start mid (c.open.ensures.images old start.host_tells start.settled start.value) kept.images)
     (c.run_script.ensures.images old (c.open.ensures.cause.tells ∙ start.host_tells) (start.source_tells is) (subst (λ (k : Counts). IsAfter Run old [] mid k c.in-Ok-open.session) (sym c.new-summary.ensures) first))
@@ -52,7 +52,7 @@ returns-in-Run-clause-prompt g c old start =
     let mid = g.H.Host.state c.open.new.host in
     let command = command_of c.args.words.now in
     let is : command ≡ Some Run = sym c.command_of.ensures ∙ c.in-Some.is ∙ ap Some c.in-Run.is in
-    let kept = (c.open.ensures.silent start.host_tells (start.settled 0)).content start.host_tells in
+    let kept = (silent_only c.open.ensures.only).content start.host_tells in
     let first = opened_first command old host source start Run mid c.in-Ok-open.session kept (c.in-Ok-open.ensures.stands old start.host_tells start.settled start.value) (c.open.ensures.value start.host_tells (start.settled 0)) in
     c.run_script.ensures.prompt old (c.open.ensures.cause.tells ∙ start.host_tells) (start.source_tells is) (subst (λ (k : Counts). IsAfter Run old [] mid k c.in-Ok-open.session) (sym c.new-summary.ensures) first)
 
@@ -104,7 +104,7 @@ returns-in-Gen-clause-says g c old start =
     let new = g.H.Host.state c.run_generated.new.host in
     let command = command_of c.args.words.now in
     let is : command ≡ Some (Gen c.in-Gen.creates) = sym c.command_of.ensures ∙ c.in-Some.is ∙ ap Some c.in-Gen.is in
-    let kept = (c.open.ensures.silent start.host_tells (start.settled 0)).content start.host_tells in
+    let kept = (silent_only c.open.ensures.only).content start.host_tells in
     subst (λ k. Says k c.run_generated.result old source.rest source.rest (said_of new) (value_on new)) (sym is)
     (c.run_generated.ensures.says old (c.open.ensures.cause.tells ∙ start.host_tells)
     (opened_first command old host source start (Gen c.in-Gen.creates) mid c.in-Ok-open.session kept (c.in-Ok-open.ensures.stands old start.host_tells start.settled start.value) (c.open.ensures.value start.host_tells (start.settled 0))))
@@ -116,7 +116,7 @@ returns-in-Gen-clause-images g c old start =
     let mid = g.H.Host.state c.open.new.host in
     let command = command_of c.args.words.now in
     let is : command ≡ Some (Gen c.in-Gen.creates) = sym c.command_of.ensures ∙ c.in-Some.is ∙ ap Some c.in-Gen.is in
-    let kept = (c.open.ensures.silent start.host_tells (start.settled 0)).content start.host_tells in
+    let kept = (silent_only c.open.ensures.only).content start.host_tells in
     goes_on (opening command old host source start mid (c.open.ensures.images old start.host_tells start.settled start.value) kept.images)
     (c.run_generated.ensures.images old (c.open.ensures.cause.tells ∙ start.host_tells)
     (opened_first command old host source start (Gen c.in-Gen.creates) mid c.in-Ok-open.session kept (c.in-Ok-open.ensures.stands old start.host_tells start.settled start.value) (c.open.ensures.value start.host_tells (start.settled 0))))
@@ -159,13 +159,13 @@ returns-in-Err-clause-says g c old start =
     let mid = g.H.Host.state c.open.new.host in
     let script = (g.S.Source.state c.args.source.now).rest in
     let command = command_of c.args.words.now in
-    let silent = (c.open.ensures.silent start.host_tells (start.settled 0)).content start.host_tells in
+    let silent = (silent_only c.open.ensures.only).content start.host_tells in
     subst (λ (s : Status). Says command s old script script (said_of mid) (value_on mid)) (sym c.unopened.ensures)
     (says_unopened command c.in-Err.fault old script (said_of mid) (value_on mid) host (c.in-Err.ensures.answer start.host_tells) start.value (silent.said ∙ start.silent) (c.open.ensures.value start.host_tells (start.settled 0) ∙ start.value))
 
 pub returns-in-Err-clause-images : goal.returns-in-Err-clause-images
 returns-in-Err-clause-images g c old start =
-    let silent = c.open.ensures.silent start.host_tells (start.settled 0) in
+    let silent = silent_only c.open.ensures.only in
     opening (command_of c.args.words.now) old (g.H.Host.state c.args.host.now) (g.S.Source.state c.args.source.now) start (g.H.Host.state c.open.new.host) (c.open.ensures.images old start.host_tells start.settled start.value) (silent.content start.host_tells).images
 
 pub returns-in-Err-clause-prompt : goal.returns-in-Err-clause-prompt
@@ -177,8 +177,7 @@ returns-in-Err-clause-limit g c run tells =
     subst (λ (s : Status). Untaken s c.args.limits.script_bytes script script) (sym c.unopened.ensures) (limit_unopened c.in-Err.fault c.args.limits.script_bytes script)
 
 pub returns-in-Err-clause-shut : goal.returns-in-Err-clause-shut
-returns-in-Err-clause-shut g c tells settled none =
-    record { said = ((c.open.ensures.silent tells settled).content tells).said; untaken = refl; value = c.open.ensures.value tells settled ∙ none; only = c.open.ensures.only tells settled }
+returns-in-Err-clause-shut g c tells none = record { untaken = refl; only = c.open.ensures.shut tells (is_shut (bytes_of (g.H.Host.state c.args.host.now)) none) }
 
 pub returns-in-Err-clause-complete : goal.returns-in-Err-clause-complete
 returns-in-Err-clause-complete g c old start room within none =
@@ -205,7 +204,7 @@ pub returns-in_default-clause-prompt : goal.returns-in_default-clause-prompt
 returns-in_default-clause-prompt g c old start = prompt_idle old _ _
 
 pub returns-in_default-clause-shut : goal.returns-in_default-clause-shut
-returns-in_default-clause-shut g c tells settled none = record { said = refl; untaken = refl; value = none; only = shut_idle (g.H.Host.state c.args.host.now) settled }
+returns-in_default-clause-shut g c tells none = record { untaken = refl; only = reads_nothing (g.H.Host.state c.args.host.now) }
 
 pub returns-in_default-clause-complete : goal.returns-in_default-clause-complete
 returns-in_default-clause-complete g c old start room within none = absurd (no_words (command_of c.args.words.now) old (g.S.Source.state c.args.source.now).rest (sym c.command_of.ensures ∙ none_by c.command_of.result c.in_default.not-Some) room)
@@ -234,4 +233,34 @@ returns-in_default-new-clause-isolated g c old start run =
     tells_isolated old script script (said_of host) (value_on host) (command_of c.args.words.now) NoMemory run (returns-in_default-new-clause-says g c old start)
 
 pub returns-in_default-new-clause-shut : goal.returns-in_default-new-clause-shut
-returns-in_default-new-clause-shut g c tells settled none = record { said = refl; untaken = refl; value = none; only = shut_idle (g.H.Host.state c.args.host.now) settled }
+returns-in_default-new-clause-shut g c tells none = record { untaken = refl; only = reads_nothing (g.H.Host.state c.args.host.now) }
+
+-- The logs of publications.
+
+pub returns-in-Run-clause-logs : goal.returns-in-Run-clause-logs
+returns-in-Run-clause-logs g c old start =
+    let host = g.H.Host.state c.args.host.now in
+    let source = g.S.Source.state c.args.source.now in
+    let mid = g.H.Host.state c.open.new.host in
+    let kept = (silent_only c.open.ensures.only).content start.host_tells in
+    let first = opened_first (command_of c.args.words.now) old host source start Run mid c.in-Ok-open.session kept (c.in-Ok-open.ensures.stands old start.host_tells start.settled start.value) (c.open.ensures.value start.host_tells (start.settled 0)) in
+    logs_on old (opened_logs host mid old c.open.ensures.only start.host_tells start.value)
+    (c.run_script.ensures.logs old (c.open.ensures.cause.tells ∙ start.host_tells) (subst (λ (k : Counts). IsAfter Run old [] mid k c.in-Ok-open.session) (sym c.new-summary.ensures) first))
+
+pub returns-in-Gen-clause-logs : goal.returns-in-Gen-clause-logs
+returns-in-Gen-clause-logs g c old start =
+    let host = g.H.Host.state c.args.host.now in
+    let source = g.S.Source.state c.args.source.now in
+    let mid = g.H.Host.state c.open.new.host in
+    let kept = (silent_only c.open.ensures.only).content start.host_tells in
+    let first = opened_first (command_of c.args.words.now) old host source start (Gen c.in-Gen.creates) mid c.in-Ok-open.session kept (c.in-Ok-open.ensures.stands old start.host_tells start.settled start.value) (c.open.ensures.value start.host_tells (start.settled 0)) in
+    logs_on old (opened_logs host mid old c.open.ensures.only start.host_tells start.value) (c.run_generated.ensures.logs old (c.open.ensures.cause.tells ∙ start.host_tells) first)
+
+pub returns-in-Err-clause-logs : goal.returns-in-Err-clause-logs
+returns-in-Err-clause-logs g c old start = opened_logs (g.H.Host.state c.args.host.now) (g.H.Host.state c.open.new.host) old c.open.ensures.only start.host_tells start.value
+
+pub returns-in_default-clause-logs : goal.returns-in_default-clause-logs
+returns-in_default-clause-logs g c old start = logs_idle old (g.H.Host.state c.args.host.now)
+
+pub returns-in_default-new-clause-logs : goal.returns-in_default-new-clause-logs
+returns-in_default-new-clause-logs g c old start = logs_idle old (g.H.Host.state c.args.host.now)

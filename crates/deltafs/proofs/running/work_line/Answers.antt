@@ -33,7 +33,7 @@ returns-in-Run-clause-leaves g c s tells stands =
     (record {
       said =
           subst (λ (l : List ℕ). SaysText c.say.result l old new) reply
-          (subst (λ (l : List ℕ). SaysText c.say.result c.deref.result.now l new) (c.step.ensures.silent.content tells).said (c.say.ensures.said mid_tells));
+          (subst (λ (l : List ℕ). SaysText c.say.result c.deref.result.now l new) ((silent_these c.step.ensures.writes).content tells).said (c.say.ensures.said mid_tells));
       files =
           leaves_said c.say.result _ _ _ c.say.ensures.fault
           (value_stays (g.H.Host.state c.step.new.host) (g.H.Host.state c.say.new.host) (c.say.ensures.files mid_tells) ∙ c.in-Ok.ensures.value s tells stands);
@@ -46,7 +46,7 @@ returns-in-Run-clause-images g c s tells stands =
     let mid = g.H.Host.state c.step.new.host in
     let new = g.H.Host.state c.say.new.host in
     let t = step s c.args.line.now in
-    let silent = c.step.ensures.silent.content tells in
+    let silent = (silent_these c.step.ensures.writes).content tells in
     let mid_tells : IsTrue mid.tells = c.step.ensures.cause.tells ∙ tells in
     subst (λ (k : Command). LeavesOnly (IsOfLine k s.registry t (said_of old)) old new) (sym c.in-Run.is)
     (replied old mid new s.registry t c.deref.result.now (c.deref.ensures.value ∙ c.in-Ok.ensures.reply s tells stands) silent.said (c.in-Ok.ensures.durable s tells stands)
@@ -54,7 +54,7 @@ returns-in-Run-clause-images g c s tells stands =
 
 pub returns-in-Run-clause-grows : goal.returns-in-Run-clause-grows
 returns-in-Run-clause-grows g c tells =
-    says_reply c.say.result c.deref.result.now (g.H.Host.state c.args.host.now) (g.H.Host.state c.step.new.host) (g.H.Host.state c.say.new.host) (c.step.ensures.silent.content tells).said (c.say.ensures.said (c.step.ensures.cause.tells ∙ tells))
+    says_reply c.say.result c.deref.result.now (g.H.Host.state c.args.host.now) (g.H.Host.state c.step.new.host) (g.H.Host.state c.say.new.host) ((silent_these c.step.ensures.writes).content tells).said (c.say.ensures.said (c.step.ensures.cause.tells ∙ tells))
 
 pub returns-in-Ok-clause-leaves : goal.returns-in-Ok-clause-leaves
 returns-in-Ok-clause-leaves g c s tells stands =
@@ -62,21 +62,28 @@ returns-in-Ok-clause-leaves g c s tells stands =
     let reply : c.deref-in-Gen.result.now ≡ text (step s c.args.line.now).reply = c.deref-in-Gen.ensures.value ∙ c.in-Ok.ensures.reply s tells stands in
     subst (λ (k : Command). Leaves k (Ok tt) s c.args.line.now old (g.H.Host.state c.step.new.host) c.args.summary.now c.count.new.self) (sym c.in-Gen.is)
     (record {
-      said = ((c.step.ensures.silent.content tells).said, c.count.ensures.counted ∙ ap (counted c.args.summary.now) reply);
+      said = (((silent_these c.step.ensures.writes).content tells).said, c.count.ensures.counted ∙ ap (counted c.args.summary.now) reply);
       files = c.in-Ok.ensures.value s tells stands;
       short = λ is. absurd (output_alone (Ok tt) tt is);
     })
 
 pub returns-in-Ok-clause-images : goal.returns-in-Ok-clause-images
 returns-in-Ok-clause-images g c s tells stands =
-    stepped c.args.command (g.H.Host.state c.args.host.now) (g.H.Host.state c.step.new.host) s.registry (step s c.args.line.now) (c.step.ensures.images s tells stands) (c.step.ensures.silent.content tells).images
+    stepped c.args.command (g.H.Host.state c.args.host.now) (g.H.Host.state c.step.new.host) s.registry (step s c.args.line.now) (c.step.ensures.images s tells stands) ((silent_these c.step.ensures.writes).content tells).images
 
 pub returns-in-Ok-clause-grows : goal.returns-in-Ok-clause-grows
-returns-in-Ok-clause-grows g c tells = record { more = []; said = (c.step.ensures.silent.content tells).said ∙ sym (append-nil (said_of (g.H.Host.state c.args.host.now))) }
+returns-in-Ok-clause-grows g c tells = record { more = []; said = ((silent_these c.step.ensures.writes).content tells).said ∙ sym (append-nil (said_of (g.H.Host.state c.args.host.now))) }
 
 pub returns-clause-images : goal.returns-clause-images
 returns-clause-images g c s tells stands =
-    stepped c.args.command (g.H.Host.state c.args.host.now) (g.H.Host.state c.step.new.host) s.registry (step s c.args.line.now) (c.step.ensures.images s tells stands) (c.step.ensures.silent.content tells).images
+    stepped c.args.command (g.H.Host.state c.args.host.now) (g.H.Host.state c.step.new.host) s.registry (step s c.args.line.now) (c.step.ensures.images s tells stands) ((silent_these c.step.ensures.writes).content tells).images
 
 pub returns-clause-grows : goal.returns-clause-grows
-returns-clause-grows g c tells = record { more = []; said = (c.step.ensures.silent.content tells).said ∙ sym (append-nil (said_of (g.H.Host.state c.args.host.now))) }
+returns-clause-grows g c tells = record { more = []; said = ((silent_these c.step.ensures.writes).content tells).said ∙ sym (append-nil (said_of (g.H.Host.state c.args.host.now))) }
+
+-- The logs of publications.
+
+pub returns-in-Run-clause-logs : goal.returns-in-Run-clause-logs
+returns-in-Run-clause-logs g c s tells stands =
+    let mid_tells = c.step.ensures.cause.tells ∙ tells in
+    logs_on s.registry (c.step.ensures.logs s tells stands) (logs_said s.registry c.deref.result.now (c.say.ensures.files mid_tells) (c.say.ensures.images mid_tells))

@@ -104,7 +104,7 @@ returns-in-Changes-clause-worked g c =
     (λ s. refl) (λ t. refl)
     worked
     (λ quiet. on_ok_by c.begin_over.result (after.reads ≡ mid.reads) (after.reads ≡ before.reads) (λ reads. reads ∙ c.in_ok-changes.ensures.reads (names_kept session names c.requires.memory quiet)) (worked.reads tt))
-    (ap Some (sym (subst (λ (x : Selection). AreNamedBy names x) c.in-Changes.is c.in_ok-changes.ensures.names))) refl (λ s tells stands many. many) refl
+    (ap Some (sym (subst (λ (x : Selection). AreNamedBy names x) c.in-Changes.is c.in_ok-changes.ensures.names))) refl refl (λ s tells stands many. many) refl
 
 pub returns-in-Damaged-clause-worked : goal.returns-in-Damaged-clause-worked
 returns-in-Damaged-clause-worked g c =

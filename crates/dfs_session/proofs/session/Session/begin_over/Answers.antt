@@ -6,7 +6,7 @@ use Rattle.std.specs.List.{AllByRecursion}
 use Rattle.dfs_host.specs.declared.fault.Fault.{Fault}
 use Rattle.dfs_host.specs.declared.fault.Fault.TheVariants.{NoMemory, Disk}
 use Rattle.dfs_host.proofs.Causes.{none_yet}
-use Rattle.dfs_host.proofs.Moments.{silent_only, silent_reads, reads_nothing}
+use Rattle.dfs_host.proofs.Moments.{reads_nothing}
 use Rattle.dfs_change.specs.declared.change.Change.{Change}
 use Rattle.dfs_job.specs.Stands.{IsSelectable}
 use Rattle.dfs_session.specs.declared.session.Session.{Session as LiveSession}
@@ -30,7 +30,7 @@ returns-in_err-reply g c =
     let same : c.from_residual.result ≡ Err NoMemory = p.1 ∙ ap Err (p.2 ∙ c.in_err-reply.ensures.memory) in
     λ basis is.
     subst (λ (r : Result (Vec ℕ) Fault). IsWorked (beginning_over c.args.word (map (λ c. c.listed.name) (map (λ c. c.value) c.args.changes.items)) basis) host host session session r) (sym same)
-    (no_memory_worked host host session session (beginning_over c.args.word (map (λ c. c.listed.name) (map (λ c. c.value) c.args.changes.items)) basis) (silent_reads (reads_nothing host)) (none_yet host) (sound_refused session c.requires.sound.memory) refl
+    (no_memory_worked host host session session (beginning_over c.args.word (map (λ c. c.listed.name) (map (λ c. c.value) c.args.changes.items)) basis) (reads_these (reads_nothing host)) (none_yet host) (sound_refused session c.requires.sound.memory) refl
     (λ s tells stands. stands_value host session s tells c.requires.sound stands) (λ s tells stands. refl)
     (λ s tells stands. read_images host host session s s.registry tells c.requires.sound stands (reads_nothing host)))
 
@@ -40,7 +40,7 @@ returns-then-is_err g c =
     let host = g.H.Host.state c.args.host.now in
     let sound = c.requires.sound in
     λ basis is.
-    no_memory_worked host host session (record session { kept = c.keep.new.self }) (beginning_over c.args.word (map (λ c. c.listed.name) (map (λ c. c.value) c.args.changes.items)) basis) (silent_reads (reads_nothing host)) (none_yet host)
+    no_memory_worked host host session (record session { kept = c.keep.new.self }) (beginning_over c.args.word (map (λ c. c.listed.name) (map (λ c. c.value) c.args.changes.items)) basis) (reads_these (reads_nothing host)) (none_yet host)
     (sound_refused session sound.memory) refl (λ s tells stands. stands_value host session s tells sound stands) (λ s tells stands. refl)
     (λ s tells stands. read_images host host session s s.registry tells sound stands (reads_nothing host))
 
@@ -54,7 +54,7 @@ returns-in_err-job g c =
     let same : c.from_residual-in_err-job.result ≡ Err Disk = p.1 ∙ ap Err p.2 in
     λ basis is.
     subst (λ (r : Result (Vec ℕ) Fault). IsWorked (beginning_over c.args.word (map (λ c. c.listed.name) (map (λ c. c.value) c.args.changes.items)) basis) host after session new r) (sym same)
-    (disk_worked host after session new (beginning_over c.args.word (map (λ c. c.listed.name) (map (λ c. c.value) c.args.changes.items)) basis) (silent_only c.begin.ensures.only) (failed_cause c.begin.result c.in_err-job.field-0.0 c.in_err-job.was c.begin.ensures.cause c.begin.ensures.reads)
+    (disk_worked host after session new (beginning_over c.args.word (map (λ c. c.listed.name) (map (λ c. c.value) c.args.changes.items)) basis) (one_of_these (next_written session) c.begin.ensures.only) (failed_cause c.begin.result c.in_err-job.field-0.0 c.in_err-job.was c.begin.ensures.cause c.begin.ensures.reads)
     (sound_refused session c.requires.sound.memory)
     (λ s tells stands. begun_images host after session c.requires.sound c.requires.last c.begin.ensures.only s s.registry tells stands))
 
@@ -79,7 +79,7 @@ returns-in-Err g c =
     let after = g.H.Host.state c.begin.new.host in
     let sound = c.requires.sound in
     λ basis is.
-    no_memory_worked host after session (record session { jobs = c.insert.new.self; kept = c.keep.new.self }) (beginning_over c.args.word (map (λ c. c.listed.name) (map (λ c. c.value) c.args.changes.items)) basis) (silent_only c.begin.ensures.only)
+    no_memory_worked host after session (record session { jobs = c.insert.new.self; kept = c.keep.new.self }) (beginning_over c.args.word (map (λ c. c.listed.name) (map (λ c. c.value) c.args.changes.items)) basis) (one_of_these (next_written session) c.begin.ensures.only)
     (fine_cause c.begin.result c.in_ok-job.job c.in_ok-job.was c.begin.ensures.cause c.begin.ensures.reads)
     (sound_refused (record session { jobs = c.insert.new.self }) (same_sound host session c.insert.new.self c.in-Err.ensures.err sound).memory) refl
     (λ s tells stands. begun_value host after session sound c.requires.last c.begin.ensures.only s tells stands) (λ s tells stands. refl)

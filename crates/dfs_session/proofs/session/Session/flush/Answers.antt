@@ -47,7 +47,7 @@ returns-in_err-flush-clause-worked g c =
     let p = err_from_is_err_and c.from_residual.result c.from_residual.ensures.1 in
     let same : c.from_residual.result ≡ Err fault = p.1 ∙ ap Err p.2 in
     subst (λ (r : Result (Vec ℕ) Fault). IsWorked (flushing w) before after session (record session { jobs = c.get_mut.follows.lender x }) r) (sym same)
-    (fault_worked before after session w live c.requires found c.flush.ensures.only x (c.get_mut.follows.lender x) (c.get_mut.follows.holds x).0 (flushing w) fault refl
+    (fault_worked before after session w live c.requires found c.flush.ensures.only x (c.get_mut.follows.lender x) (c.get_mut.follows.holds x).0 (flushing w) fault refl (own_written session w live found)
     (subst (λ (r : Result (Unit {0}) Fault). HasFaultCause before after r) was c.flush.ensures.cause) (λ is. inl (c.flush.ensures.full.0 (was ∙ is))) (past_of before after session w live c.requires found x c.flush.ensures.settings c.flush.ensures.past) (λ some. sym was ∙ c.flush.ensures.full.1 some)
     (λ s tells stands is.
     let f = found_job before session s w live stands found in
@@ -71,7 +71,7 @@ returns-clause-worked g c =
     (none_by (none_yet before) c.flush.ensures.cause (ok Disk c.in_ok-flush.was)) (none_unless x.layers.log.refused (λ some. ok LogFull c.in_ok-flush.was (c.flush.ensures.full.1 some))) refl of.sound (ap (λ (n : _). n.job) c.flush.ensures.number)
     (inl (ap (map (λ c. c.value)) c.flush.ensures.basis))
     (λ s f. ap (λ (o : Option Job). of_live o s (λ j. record { session = with_job s w (after_flush j); reply = OkReply })) f.found) (λ s f. refl) (λ s f tells. c.text_of-2.ensures.text)
-    (λ s f tells stands. changed_stands before after session w live c.requires found c.flush.ensures.only x jobs set s (after_flush f.plain) tells stands (of.stands f.plain tells f.is)) c.text_of-2.ensures.memory (λ quiet. quiet)
+    (λ s f tells stands. changed_stands before after session w live c.requires found c.flush.ensures.only x jobs set s (after_flush f.plain) tells stands (of.stands f.plain tells f.is)) c.text_of-2.ensures.memory (λ quiet. quiet) (own_written session w live found)
 
 pub returns-in_default-clause-at_once : goal.returns-in_default-clause-at_once
 returns-in_default-clause-at_once g c = λ s tells stands is. (c.text_of.ensures.memory, refl)

@@ -24,8 +24,8 @@ pub returns-clause-images : goal.returns-clause-images
 returns-clause-images g c = λ registry tells settled was.
     opened_images (g.H.Host.state c.args.host.now) (g.H.Host.state c.open.new.host) registry (c.open.ensures.images tells (settled 0)) settled was
 
-pub returns-in_err-registry-clause-only : goal.returns-in_err-registry-clause-only
-returns-in_err-registry-clause-only g c = c.open.ensures.images
+pub returns-in_err-registry-clause-meaning : goal.returns-in_err-registry-clause-meaning
+returns-in_err-registry-clause-meaning g c = c.open.ensures.images
 
-pub returns-clause-only : goal.returns-clause-only
-returns-clause-only g c = c.open.ensures.images
+pub returns-clause-meaning : goal.returns-clause-meaning
+returns-clause-meaning g c = c.open.ensures.images

@@ -53,7 +53,7 @@ returns-in_err-answer-clause-worked g c =
     let p = err_from_is_err_and c.from_residual.result c.from_residual.ensures.1 in
     let same : c.from_residual.result ≡ Err fault = p.1 ∙ ap Err p.2 in
     subst (λ (r : Result (Vec ℕ) Fault). IsWorked (operating w op) before after session (record session { jobs = c.get_mut.follows.lender x }) r) (sym same)
-    (fault_worked before after session w live c.requires.sound found c.op.ensures.only x (c.get_mut.follows.lender x) (c.get_mut.follows.holds x).0 (operating w op) fault refl
+    (fault_worked before after session w live c.requires.sound found c.op.ensures.only x (c.get_mut.follows.lender x) (c.get_mut.follows.holds x).0 (operating w op) fault refl (own_written session w live found)
     (subst (λ (r : Result OpReply Fault). HasFaultCause before after r) was c.op.ensures.cause) (λ is. inl (c.op.ensures.full.0 (was ∙ is))) (past_of before after session w live c.requires.sound found x c.op.ensures.settings c.op.ensures.past) (λ some. sym was ∙ c.op.ensures.full.1 some)
     (λ s tells stands is.
     let f = found_job before session s w live stands found in
@@ -79,7 +79,7 @@ returns-clause-worked g c =
     (none_unless x.layers.log.refused (λ some. ok LogFull c.in_ok-answer.was (c.op.ensures.full.1 some))) refl of.sound of.number (inl (ap (map (λ c. c.value)) c.op.ensures.basis))
     (λ s f. ap (λ (o : Option Job). of_live o s (λ j. operates s w j (does j op))) f.found) (λ s f. refl)
     (λ s f tells. subst (λ (a : OpReply). IfOk c.text_of-2.result (λ bytes. bytes.items ≡ text (told a))) (of.answer f.plain tells f.is) (subst (λ (r : Reply). IfOk c.text_of-2.result (λ bytes. bytes.items ≡ text r)) c.told.ensures c.text_of-2.ensures.text))
-    (λ s f tells stands. changed_stands before after_op session w live c.requires.sound found c.op.ensures.only x jobs set s (after f.plain (does f.plain op)) tells stands (of.stands f.plain tells f.is)) c.text_of-2.ensures.memory (λ quiet. quiet)
+    (λ s f tells stands. changed_stands before after_op session w live c.requires.sound found c.op.ensures.only x jobs set s (after f.plain (does f.plain op)) tells stands (of.stands f.plain tells f.is)) c.text_of-2.ensures.memory (λ quiet. quiet) (own_written session w live found)
 
 pub returns-in_default-clause-at_once : goal.returns-in_default-clause-at_once
 returns-in_default-clause-at_once g c = λ s tells stands is. (c.text_of.ensures.memory, refl)

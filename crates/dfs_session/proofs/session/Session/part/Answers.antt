@@ -55,7 +55,7 @@ returns-in_err-answer-clause-worked g c =
     let p = err_from_is_err_and c.from_residual.result c.from_residual.ensures.1 in
     let same : c.from_residual.result ≡ Err fault = p.1 ∙ ap Err p.2 in
     subst (λ (r : Result (Vec ℕ) Fault). IsWorked work before after session (record session { jobs = c.get_mut.follows.lender x }) r) (sym same)
-    (fault_worked before after session w live c.requires found c.part.ensures.only x (c.get_mut.follows.lender x) (c.get_mut.follows.holds x).0 work fault refl
+    (fault_worked before after session w live c.requires found c.part.ensures.only x (c.get_mut.follows.lender x) (c.get_mut.follows.holds x).0 work fault refl (own_written session w live found)
     (subst (λ (r : Result JobPart Fault). HasFaultCause before after r) was c.part.ensures.cause) (λ is. so_of_job session w live merges_too_many found (c.part.ensures.full (was ∙ is))) (past_of before after session w live c.requires found x c.part.ensures.settings c.part.ensures.past) (λ some. sym was ∙ c.part.ensures.refuses some)
     (λ s tells stands is.
     let f = found_job before session s w live stands found in
@@ -82,7 +82,7 @@ returns-clause-worked g c =
     (left_basis live x c.part.ensures.basis)
     (λ s f. ap (λ (o : Option Job). of_live o s (λ j. merges_with s w j part)) f.found) (λ s f. refl)
     (λ s f tells. subst (λ (a : JobPart). IfOk c.text_of-2.result (λ bytes. bytes.items ≡ text (told_of_part a))) (of.answer f.plain tells f.is) (subst (λ (r : Reply). IfOk c.text_of-2.result (λ bytes. bytes.items ≡ text r)) c.told_of_part.ensures c.text_of-2.ensures.text))
-    (λ s f tells stands. changed_stands before after session w live c.requires found c.part.ensures.only x jobs set s (after_part f.plain part) tells stands (of.stands f.plain tells f.is)) c.text_of-2.ensures.memory (λ quiet. quiet)
+    (λ s f tells stands. changed_stands before after session w live c.requires found c.part.ensures.only x jobs set s (after_part f.plain part) tells stands (of.stands f.plain tells f.is)) c.text_of-2.ensures.memory (λ quiet. quiet) (own_written session w live found)
 
 pub returns-in_default-clause-too_many : goal.returns-in_default-clause-too_many
 returns-in_default-clause-too_many g c = λ s tells stands many. absurd (subst (λ (o : Option LiveJob). PartPasses o (live_job s c.args.word.now) c.args.part) (sym c.in_default.ensures.value) many)

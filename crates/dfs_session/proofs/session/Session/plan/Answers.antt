@@ -57,7 +57,7 @@ returns-in_err-answer-clause-worked g c =
     let p = err_from_is_err_and c.from_residual.result c.from_residual.ensures.1 in
     let same : c.from_residual.result ≡ Err fault = p.1 ∙ ap Err p.2 in
     subst (λ (r : Result (Vec ℕ) Fault). IsWorked work before after session (record session { jobs = c.get_mut.follows.lender x }) r) (sym same)
-    (fault_worked before after session w live c.requires.sound found c.plan.ensures.only x (c.get_mut.follows.lender x) (c.get_mut.follows.holds x).0 work fault refl
+    (fault_worked before after session w live c.requires.sound found c.plan.ensures.only x (c.get_mut.follows.lender x) (c.get_mut.follows.holds x).0 work fault refl (own_written session w live found)
     (subst (λ (r : Result Planned Fault). HasFaultCause before after r) was c.plan.ensures.cause) (λ is. inl (c.plan.ensures.full.0 (was ∙ is))) (past_of before after session w live c.requires.sound found x c.plan.ensures.settings c.plan.ensures.past) (λ some. sym was ∙ c.plan.ensures.full.1 some)
     (λ s tells stands is.
     let f = found_job before session s w live stands found in
@@ -85,7 +85,7 @@ returns-clause-worked g c =
     (inl (ap (map (λ c. c.value)) c.plan.ensures.basis))
     (λ s f. ap (λ (o : Option Job). of_live o s (λ j. plans_with s w j scope parts)) f.found) (λ s f. refl)
     (λ s f tells. subst (λ (a : Planned). IfOk c.text_of-2.result (λ bytes. bytes.items ≡ text (told_of_plan a))) (of.answer f.plain tells f.is) (subst (λ (r : Reply). IfOk c.text_of-2.result (λ bytes. bytes.items ≡ text r)) c.told_of_plan.ensures c.text_of-2.ensures.text))
-    (λ s f tells stands. changed_stands before after session w live c.requires.sound found c.plan.ensures.only x jobs set s (after_plan f.plain scope parts) tells stands (of.stands f.plain tells f.is)) c.text_of-2.ensures.memory (λ quiet. quiet)
+    (λ s f tells stands. changed_stands before after session w live c.requires.sound found c.plan.ensures.only x jobs set s (after_plan f.plain scope parts) tells stands (of.stands f.plain tells f.is)) c.text_of-2.ensures.memory (λ quiet. quiet) (own_written session w live found)
 
 pub returns-in_default-clause-at_once : goal.returns-in_default-clause-at_once
 returns-in_default-clause-at_once g c = λ s tells stands is. (c.text_of.ensures.memory, refl)

@@ -67,7 +67,7 @@ returns-clause-worked g c =
     let few : false ≡ nat_le 4096 (length (listed_in session)) = sym (lt-leb 4096 (length (listed_in session)) (omega (arith, c.if-count-ge-MOST_PUBLICATIONS.false, c.count.ensures.count))) in
     after_reads host host after session c.publish_anew.new.self (publishing w name) (publishing_anew w name) c.publish_anew.result c.requires (reads_nothing host) (none_yet host)
     (λ s tells stands. publishes_as_anew host session s w live.0 name stands (found_job host session s w live.0 stands live.1) anew few) (λ s. refl) (λ t. refl)
-    c.publish_anew.ensures.worked (λ quiet. absurd quiet) refl refl
+    c.publish_anew.ensures.worked (λ quiet. absurd quiet) refl refl refl
     (λ s tells stands many. (not_refused session s w name stands (found_job host session s w live.0 stands live.1) anew few, many)) refl
 
 pub returns-then-not-contains_key-clause-too_many : goal.returns-then-not-contains_key-clause-too_many

@@ -56,7 +56,7 @@ returns-in_err-sealed-clause-worked g c =
     let p = err_from_is_err_and c.from_residual.result c.from_residual.ensures.1 in
     let same : c.from_residual.result ≡ Err fault = p.1 ∙ ap Err p.2 in
     subst (λ (r : Result (Vec ℕ) Fault). IsWorked (publishing_anew w c.args.name) before mid session (record session { jobs = jobs }) r) (sym same)
-    (fault_worked before mid session w live c.requires.sound found wrote.only x jobs (c.get_mut.follows.holds x).0 (publishing_anew w c.args.name) fault refl
+    (fault_worked before mid session w live c.requires.sound found wrote.only x jobs (c.get_mut.follows.holds x).0 (publishing_anew w c.args.name) fault refl (log_written session w live found)
     (subst (λ (r : Result Sealed Fault). HasFaultCause before mid r) was wrote.cause) (λ is. so_of_job session w live publishes_too_many found (wrote.full (was ∙ is))) (past_of before mid session w live c.requires.sound found x wrote.settings wrote.past) (λ some. sym was ∙ wrote.refuses some)
     (λ s tells stands is.
     let f = found_job before session s w live stands found in
@@ -78,7 +78,7 @@ returns-in_err-reply-clause-worked g c =
     let same : c.from_residual-in_err-reply.result ≡ Err NoMemory = p.1 ∙ ap Err (p.2 ∙ c.in_err-reply.ensures.memory) in
     let none : NoFault before mid = none_by (none_yet before) wrote.cause (ok Disk c.in_ok-sealed.was) in
     subst (λ (r : Result (Vec ℕ) Fault). IsWorked (publishing_anew w c.args.name) before mid session (record session { jobs = jobs }) r) (sym same)
-    (fault_worked before mid session w live c.requires.sound (sym c.in-Some.ensures.value) wrote.only x jobs (c.get_mut.follows.holds x).0 {T = Vec ℕ} (publishing_anew w c.args.name) NoMemory refl (memory_cause (Err NoMemory) none refl)
+    (fault_worked before mid session w live c.requires.sound (sym c.in-Some.ensures.value) wrote.only x jobs (c.get_mut.follows.holds x).0 {T = Vec ℕ} (publishing_anew w c.args.name) NoMemory refl (log_written session w live (sym c.in-Some.ensures.value)) (memory_cause (Err NoMemory) none refl)
     (λ is. absurd (memory_not_full (ap fault_or is))) (past_of before mid session w live c.requires.sound (sym c.in-Some.ensures.value) x wrote.settings wrote.past) (λ some. absurd (ok LogFull c.in_ok-sealed.was (wrote.refuses some))) (λ s tells stands is. absurd (memory_not_full is)) (λ s tells stands is. absurd (memory_not_full is)))
 
 pub list-requires-clause-stands : goal.list-requires-clause-stands

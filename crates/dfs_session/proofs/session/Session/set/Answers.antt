@@ -1,6 +1,6 @@
 use Rattle.std.proofs.Common.{◌∙◌, None, refl, sym, ap}
 use Rattle.dfs_host.proofs.Causes.{none_yet}
-use Rattle.dfs_host.proofs.Moments.{silent_reads, reads_nothing}
+use Rattle.dfs_host.proofs.Moments.{reads_nothing}
 use Rattle.dfs_session.specs.declared.session.Session.{Session as LiveSession}
 use Rattle.dfs_session.specs.Session.{sets, with_setting}
 use Rattle.dfs_session.specs.Sound.{IsSound}
@@ -36,7 +36,7 @@ returns c = λ host sound.
       jobs = sound.jobs;
       kept = sound.kept;
     } in
-    worked_by_memory host host old new (setting c.args.what c.args.value) c.text_of.result c.text_of.ensures.memory (silent_reads (reads_nothing host)) (none_yet host) (sound_refused new new_sound.memory) c.with_setting-self.ensures.with
+    worked_by_memory host host old new (setting c.args.what c.args.value) c.text_of.result c.text_of.ensures.memory (reads_these (reads_nothing host)) (none_yet host) (sound_refused new new_sound.memory) c.with_setting-self.ensures.with
     (on_ok c.text_of.result (IsSound host new) new_sound) (λ s tells stands. c.text_of.ensures.text)
     (λ s tells stands. on_ok c.text_of.result (Stands host new (sets s c.args.what c.args.value).session) (record {
       registry = stands.registry;

@@ -13,3 +13,9 @@ returns-in-Ok-clause-kept g c = λ word names is selected. c.in-Ok.ensures.worke
 
 pub returns-in-Err-clause-passes : goal.returns-in-Err-clause-passes
 returns-in-Err-clause-passes g c = λ s tells stands is. c.work.ensures.worked.passes s tells stands (c.in-Err.is ∙ is)
+
+pub returns-in-Ok-clause-logs : goal.returns-in-Ok-clause-logs
+returns-in-Ok-clause-logs g c = λ s tells stands. logs_stay (g.H.Host.state c.args.host.now) c.args.self.now c.requires tells (meaning c.args.line.now) s (g.H.Host.state c.work.new.host) stands c.work.ensures.worked.writes
+
+pub returns-in-Err-clause-logs : goal.returns-in-Err-clause-logs
+returns-in-Err-clause-logs g c = λ s tells stands. logs_stay (g.H.Host.state c.args.host.now) c.args.self.now c.requires tells (meaning c.args.line.now) s (g.H.Host.state c.work.new.host) stands c.work.ensures.worked.writes

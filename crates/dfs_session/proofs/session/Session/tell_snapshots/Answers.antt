@@ -4,7 +4,7 @@ use Rattle.std.specs.Global.{Vec}
 use Rattle.dfs_host.specs.declared.fault.Fault.{Fault}
 use Rattle.dfs_host.specs.declared.fault.Fault.TheVariants.{NoMemory}
 use Rattle.dfs_host.proofs.Causes.{none_yet}
-use Rattle.dfs_host.proofs.Moments.{silent_reads, reads_nothing}
+use Rattle.dfs_host.proofs.Moments.{reads_nothing}
 use Rattle.dfs_record.specs.declared.SnapName.{SnapName}
 use Rattle.dfs_reply.specs.declared.Reply.TheVariants.{Snapshots as SnapshotsReply}
 use Rattle.dfs_session.specs.Session.{tells_snapshots, stays}
@@ -24,7 +24,7 @@ returns-in_err-list c =
     let same : c.from_residual.result ≡ Err NoMemory = p.1 ∙ ap Err (p.2 ∙ c.in_err-list.ensures.memory) in
     λ host sound.
     subst (λ (r : Result (Vec ℕ) Fault). IsWorked (plain tells_snapshots) host host session session r) (sym same)
-    (no_memory_worked host host session session (plain tells_snapshots) (silent_reads (reads_nothing host)) (none_yet host) (sound_refused session sound.memory) refl
+    (no_memory_worked host host session session (plain tells_snapshots) (reads_these (reads_nothing host)) (none_yet host) (sound_refused session sound.memory) refl
     (λ s tells stands. stands_value host session s tells sound stands) (λ s tells stands. refl)
     (λ s tells stands. read_images host host session s s.registry tells sound stands (reads_nothing host)))
 

@@ -1,17 +1,17 @@
 -- What a crash leaves of file 0 in each step of opening.
-use Rattle.std.proofs.Common.{◌≡◌, ℕ, zero, suc, inl, inr, ◌+◌, ◌-◌, ◌<◌, ◌≤◌, false, List, [], ◌∷◌, ◌++◌, length, take, drop, sym, ◌∙◌, ap, arith, length-append, length-take, length-drop}
-use Rattle.std.specs.Prelude.{IsTrue, ◌==◌}
+use Rattle.std.proofs.Common.{◌≡◌, ℕ, zero, suc, inl, inr, ◌+◌, ◌-◌, ◌<◌, ◌≤◌, false, List, [], ◌∷◌, ◌++◌, length, take, drop, refl, sym, ◌∙◌, ap, subst, arith, length-append, length-take, length-drop}
+use Rattle.std.specs.Prelude.{IsTrue, Result, ◌==◌}
 use Rattle.std.proofs.lemmas.List.{take_at, get_or-take}
 use Rattle.std.specs.Str.{bytes_eq}
 use Rattle.std.proofs.lemmas.Bool.{cond-true, cond-false, lt-leb, le-leb, and_left, and_cases, ltb-false}
 use Rattle.std.proofs.Math.Seq.{take-append-add}
 use Rattle.dfs_host.specs.Disk.{Disk as DiskState, Torn, Cropped, IsSettled, overwritten}
-use Rattle.dfs_host.specs.Host.{HostState, bytes_of, OnlyReads, ChangesNothing, ChangesOnly}
+use Rattle.dfs_host.specs.Host.{HostState, bytes_of, Told, HasDiskCause, OnlyReads, ChangesNothing, ChangesOnly}
 use Rattle.dfs_host.proofs.Files.{left_when_settled}
-use Rattle.dfs_host.proofs.Moments.{nothing_changed, changes_on}
+use Rattle.dfs_host.proofs.Moments.{nothing_changed, changes_on, reads_go_on, same_bytes}
 use Rattle.dfs_registry.specs.declared.listed.Listed.{Listed}
 use Rattle.dfs_registry.specs.Reading.{header, registry, listing, not_a_registry, blocks, at_rest, gate_of, is_open, IsListing}
-use Rattle.dfs_registry.specs.Opening.{EndsBehind}
+use Rattle.dfs_registry.specs.Opening.{EndsBehind, IsShut}
 use Rattle.dfs_registry.proofs.Gates.{stands_for, end_shut}
 use Rattle.dfs_registry.proofs.Pieces.{shut_short}
 use Rattle.dfs_registry.proofs.Writes.{torn_end, overwritten_end}
@@ -95,6 +95,10 @@ pub close_leaves : {old mid new : HostState} {bs : List Listed} → IsSettled (o
     → ChangesOnly 0 (λ c. registry c ≡ listing bs) mid new → ChangesOnly 0 (λ c. registry c ≡ registry (bytes_of old 0)) old new
 close_leaves settled only tells is close = changes_on (reads_leave settled only tells) close (λ c closed. closed ∙ sym is)
 
+-- what the file stood for before the reads that found its bodies
+pub stood : {old mid : HostState} {bs : List Listed} → OnlyReads old mid → IsTrue old.tells → IsListing bs → EndsBehind bs (bytes_of mid 0) → registry (bytes_of old 0) ≡ listing bs
+stood only tells is ends = ap registry (sym (same_bytes only tells 0)) ∙ stands _ is _ _ refl ends
+
 -- and so does a look at its length, before it is opened
 pub opened_after : {old mid new : HostState} → IsSettled (old.disk.files 0) → ChangesNothing old mid
     → ChangesOnly 0 (λ c. registry c ≡ registry (bytes_of mid 0)) mid new → ChangesOnly 0 (λ c. registry c ≡ registry (bytes_of old 0)) old new
@@ -105,3 +109,10 @@ opened_after settled same opened =
 pub other_header : (file : List ℕ) → 9 < length file → bytes_eq (take 8 file) header ≡ false → registry file ≡ not_a_registry
 unfolding registry
 other_header file long other = cond-false _ _ _ (lt-leb (length file) 9 long) ∙ cond-false _ _ _ other
+
+-- a shut file is only read where a look at its length comes before
+pub shut_after : {old mid new : HostState} {T E : Type 0} {result : Result T E} → HasDiskCause old mid result → Told old (ChangesNothing old mid)
+    → Told mid (IsShut (registry (bytes_of mid 0)) → OnlyReads mid new) → Told old (IsShut (registry (bytes_of old 0)) → OnlyReads old new)
+shut_after {old} {mid} cause same then tells shut =
+    let seen : OnlyReads old mid = record { tells = cause.tells; say_faults = cause.say_faults; content = same } in
+    reads_go_on seen (then (seen.tells ∙ tells) (subst (λ (l : List ℕ). IsShut (registry l)) (sym (same_bytes seen tells 0)) shut))

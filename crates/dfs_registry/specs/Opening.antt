@@ -61,3 +61,9 @@ IsAnswer reading (Err NotRegistry) = reading ≡ not_a_registry
 IsAnswer reading (Err (Damaged place)) = reading ≡ damaged place
 IsAnswer reading (Err NoMemory) = Unit {0}
 IsAnswer reading (Err Disk) = Unit {0}
+
+-- the file is no registry, or a damaged one
+abbrev pub IsShut : Reading → Type 0
+IsShut (listing bs) = ⊥
+IsShut not_a_registry = Unit {0}
+IsShut (damaged place) = Unit {0}

@@ -3,7 +3,7 @@ ghost use Rattle.dfs_host.specs.Disk.{IsSettled};
 ghost use Rattle.dfs_mem.specs.MemHost.{state_of};
 
 use super::*;
-use dfs_mem::{Call, MemHost};
+use dfs_mem::{Call, Choice, Fill, Length, MemHost};
 use dfs_record::SnapName;
 use dfs_registry::RegFault;
 use std::alloc::Global;
@@ -103,6 +103,37 @@ fn short_files(rt: HostRuntime) -> Result<(), Fail> {
     assert_eq!(rt; open_file(alloc, b"XXXXXXXXXX")?, other);
     assert_eq!(rt; open_file(alloc, b"DFSREG01\x01\0")?, damaged(9));
     assert_eq!(rt; open_file(alloc, b"DFSREG01\x07\0")?.fault, None);
+    Ok(())
+}
+
+// What a crash may leave of file 0 after so many of the host's calls.
+fn left(host: &MemHost, moment: u64, length: Length) -> Result<MemHost, Fail> {
+    Ok(host.image(Choice {
+        moment: moment.min(host.calls()),
+        length,
+        fill: Fill::Latest,
+    })?)
+}
+
+// The calls are len, cut, sync, write and sync.
+#[test]
+fn a_short_file_is_cut_before_it_is_written(rt: HostRuntime) -> Result<(), Fail> {
+    let alloc = rt.alloc();
+    let mut host = host_with(alloc, b"XXX")?;
+    let _registry = Registry::open(alloc, &mut host)?;
+    assert_eq!(rt; host.calls(), 5);
+    for (moment, least, greatest) in [
+        (1, b"XXX".as_slice(), b"XXX".as_slice()),
+        (2, b"".as_slice(), b"XXX".as_slice()),
+        (3, b"".as_slice(), b"".as_slice()),
+        (4, b"".as_slice(), b"DFSREG01\0".as_slice()),
+        (5, b"DFSREG01\0".as_slice(), b"DFSREG01\0".as_slice()),
+    ] {
+        let shortest = left(&host, moment, Length::Least)?;
+        assert_eq!(rt; shortest.file(0), least, "after {moment}");
+        let longest = left(&host, moment, Length::Greatest)?;
+        assert_eq!(rt; longest.file(0), greatest, "after {moment}");
+    }
     Ok(())
 }
 

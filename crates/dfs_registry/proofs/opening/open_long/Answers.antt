@@ -1,8 +1,8 @@
-use Rattle.std.proofs.Common.{refl, sym, ◌∙◌, ap, subst}
+use Rattle.std.proofs.Common.{sym, ◌∙◌, subst}
 use Rattle.dfs_host.specs.Disk.{IsSettled}
-use Rattle.dfs_registry.specs.Reading.{registry}
-use Rattle.dfs_host.proofs.Moments.{only_goes_on, reads_go_on, reads_only, same_bytes}
-use Rattle.dfs_registry.proofs.Steps.{stands, reads_leave, close_leaves, other_header}
+use Rattle.dfs_host.proofs.Moments.{only_goes_on, reads_go_on, reads_only}
+use Rattle.dfs_registry.specs.Opening.{IsShut}
+use Rattle.dfs_registry.proofs.Steps.{stood, reads_leave, close_leaves, other_header}
 use Rattle.dfs_registry.proofs.opening.open_long.Goals as goal
 
 pub returns-in_err-registry-in-Ok-true-clause-images : goal.returns-in_err-registry-in-Ok-true-clause-images
@@ -10,20 +10,20 @@ returns-in_err-registry-in-Ok-true-clause-images g c tells settled = reads_leave
 
 pub returns-in-Ok-clause-answer : goal.returns-in-Ok-clause-answer
 returns-in-Ok-clause-answer g c tells =
-    sym (ap registry (same_bytes c.has_header.ensures.only tells 0)) ∙ stands _ c.in_ok-registry-in-Ok-true.ensures.listing _ _ refl (c.in_ok-registry-in-Ok-true.ensures.ends (c.has_header.ensures.only.tells ∙ tells))
+    stood c.has_header.ensures.only tells c.in_ok-registry-in-Ok-true.ensures.listing (c.in_ok-registry-in-Ok-true.ensures.ends (c.has_header.ensures.only.tells ∙ tells))
 
 pub returns-in-Ok-clause-images : goal.returns-in-Ok-clause-images
 returns-in-Ok-clause-images g c tells settled =
     let only = reads_go_on c.has_header.ensures.only c.read_gates.ensures.only in
     close_leaves settled only tells
-    (sym (ap registry (same_bytes c.has_header.ensures.only tells 0)) ∙ stands _ c.in_ok-registry-in-Ok-true.ensures.listing _ _ refl (c.in_ok-registry-in-Ok-true.ensures.ends (c.has_header.ensures.only.tells ∙ tells)))
+    (stood c.has_header.ensures.only tells c.in_ok-registry-in-Ok-true.ensures.listing (c.in_ok-registry-in-Ok-true.ensures.ends (c.has_header.ensures.only.tells ∙ tells)))
     (c.close.ensures.images (only.tells ∙ tells) (subst (λ d. IsSettled (d.files 0)) (sym (only.content tells).disk) settled))
 
 pub returns-in-Err-close-clause-images : goal.returns-in-Err-close-clause-images
 returns-in-Err-close-clause-images g c tells settled =
     let only = reads_go_on c.has_header.ensures.only c.read_gates.ensures.only in
     close_leaves settled only tells
-    (sym (ap registry (same_bytes c.has_header.ensures.only tells 0)) ∙ stands _ c.in_ok-registry-in-Ok-true.ensures.listing _ _ refl (c.in_ok-registry-in-Ok-true.ensures.ends (c.has_header.ensures.only.tells ∙ tells)))
+    (stood c.has_header.ensures.only tells c.in_ok-registry-in-Ok-true.ensures.listing (c.in_ok-registry-in-Ok-true.ensures.ends (c.has_header.ensures.only.tells ∙ tells)))
     (c.close.ensures.images (only.tells ∙ tells) (subst (λ d. IsSettled (d.files 0)) (sym (only.content tells).disk) settled))
 
 pub returns-in-Ok-false-clause-answer : goal.returns-in-Ok-false-clause-answer
@@ -49,3 +49,11 @@ returns-in-Ok-false-clause-only g c = reads_only c.has_header.ensures.only
 
 pub returns-in-Err-clause-only : goal.returns-in-Err-clause-only
 returns-in-Err-clause-only g c = reads_only c.has_header.ensures.only
+
+pub returns-in-Ok-clause-shut : goal.returns-in-Ok-clause-shut
+returns-in-Ok-clause-shut g c tells shut =
+    absurd (subst IsShut (stood c.has_header.ensures.only tells c.in_ok-registry-in-Ok-true.ensures.listing (c.in_ok-registry-in-Ok-true.ensures.ends (c.has_header.ensures.only.tells ∙ tells))) shut)
+
+pub returns-in-Err-close-clause-shut : goal.returns-in-Err-close-clause-shut
+returns-in-Err-close-clause-shut g c tells shut =
+    absurd (subst IsShut (stood c.has_header.ensures.only tells c.in_ok-registry-in-Ok-true.ensures.listing (c.in_ok-registry-in-Ok-true.ensures.ends (c.has_header.ensures.only.tells ∙ tells))) shut)

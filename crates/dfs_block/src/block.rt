@@ -5,6 +5,7 @@ ghost use Rattle.dfs_record.specs.declared.Record.{Record};
 ghost use Rattle.dfs_record.specs.Delta.{last_value, or_else};
 ghost use Rattle.dfs_record.specs.Lend.{key_of, record_of, value_of};
 ghost use Rattle.dfs_record.specs.Record.{IsKey, IsValue};
+ghost use Rattle.dfs_record.specs.Records.{Files};
 ghost use Rattle.dfs_block.specs.Block.{Has, HasNot, IsBlock, IsNoBlock, first_key, last_key};
 ghost use Rattle.dfs_block.specs.Front.{records_front};
 ghost use Rattle.dfs_block.specs.Read.{AreNoRecords, EndAt, is_above as is_above_key, value_for};
@@ -120,7 +121,9 @@ impl<'a> Block<'a> {
 
     /// Its records, in the order of their keys.
     pub fn records(&self) -> BlockRecords<'a>
-        ensures { ⟦<BlockRecords<'a> as Records>⟧.rest result ≡ self.now }
+        ensures rest { ⟦<BlockRecords<'a> as Records>⟧.rest result ≡ self.now }
+        ensures unread { ⟦<BlockRecords<'a> as Records>⟧.unread result ≡ 0 }
+        ensures comes { (files : Files) (l : List Record) → ⟦<BlockRecords<'a> as Records>⟧.Comes result files l ↔ (l ≡ self.now) }
     {
         BlockRecords::at(self.count, self.records)
     }

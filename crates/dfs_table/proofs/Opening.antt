@@ -1,7 +1,7 @@
 -- Tables that are read back from the bytes of a log.
-use Rattle.std.proofs.Common.{◌≡◌, ℕ, suc, ◌+◌, ◌≤◌, Bool, true, false, List, [], ◌∷◌, ◌++◌, ◌&&◌, length, take, drop, refl, sym, ap, subst, ◌∙◌, arith, length-take, length-drop}
-use Rattle.std.specs.Prelude.{IsErrOf, IsTrue, Result, Some, flat_map, slice_get}
-use Rattle.std.specs.Int.{w16, to_be_bytes}
+use Rattle.std.proofs.Common.{◌≡◌, ℕ, suc, ◌+◌, ◌≤◌, Bool, true, false, List, [], ◌∷◌, ◌++◌, ◌&&◌, ◌-◌, length, take, drop, refl, sym, ap, subst, ◌∙◌, arith, length-append, length-take, length-drop}
+use Rattle.std.specs.Prelude.{IsErrOf, IsTrue, Result, Some, flat_map, min, slice_get}
+use Rattle.std.specs.Int.{w16, w32, to_be_bytes}
 use Rattle.std.specs.List.{AllByRecursion, list_all}
 use Rattle.std.proofs.lemmas.List.{drop_at}
 use Rattle.std.proofs.lemmas.Option.{get_or_from_slice_get, slice_get_within}
@@ -15,7 +15,7 @@ use Rattle.dfs_block.specs.Block.{IsBlock, first_key, last_key}
 use Rattle.dfs_block.specs.Front.{records_front}
 use Rattle.dfs_block.proofs.Blocks.{front_all, one_list as one_block}
 use Rattle.dfs_fence.specs.declared.fence.Fence.{Fence}
-use Rattle.dfs_fence.specs.Index.{IsIndex, most_bytes}
+use Rattle.dfs_fence.specs.Index.{IsIndex, fence_bytes, most_bytes}
 use Rattle.dfs_fence.proofs.Indexes.{one_list, short}
 use Rattle.dfs_fence.proofs.Spelled.{all_more, flat_more}
 use Rattle.dfs_table.specs.declared.open.OpenFault.{OpenFault}
@@ -46,6 +46,22 @@ pub true_of_all : {X : Type 0} (test : X → Bool) (xs : List X) → AllByRecurs
 true_of_all test [] all = refl
 true_of_all test (x ∷ xs) all = both (test x) (list_all test xs) all.0 (true_of_all test xs all.1)
 
+pub part_length : (file : List ℕ) (at len : ℕ) → length (part file at len) ≡ min len (length file - at)
+part_length file at len = length-take len (drop at file) ∙ ap (min len) (length-drop at file)
+
+-- a part that has as many bytes as were asked for, and one at least, lies inside the file
+part_inside : (file : List ℕ) (at len : ℕ) → length (part file at len) ≡ len → 1 ≤ len → at + len ≤ length file
+part_inside file at len whole some = omega (arith, whole, some, part_length file at len)
+
+-- what was read whole and is an index or a block lies inside the file
+pub index_inside : (file : List ℕ) (at len : ℕ) (fs : List Fence) → length (part file at len) ≡ len → IsIndex (part file at len) fs → at + len ≤ length file
+index_inside file at len fs whole is =
+    part_inside file at len whole (omega (arith, whole, ap length is.spelled, length-append (to_be_bytes w32 (length fs)) (flat_map fence_bytes fs)))
+
+pub block_inside : (file : List ℕ) (at len : ℕ) (rs : List Record) → length (part file at len) ≡ len → IsBlock (part file at len) rs → at + len ≤ length file
+block_inside file at len rs whole is =
+    part_inside file at len whole (omega (arith, whole, ap length is.spelled, length-append (to_be_bytes w16 (length rs)) (flat_map spelling rs)))
+
 -- the records of a block are those that its fence counts behind the first two bytes
 pub front_is : (bytes : List ℕ) (rs : List Record) (count : ℕ) → IsBlock bytes rs → length rs ≡ count → records_front count (drop 2 bytes) ≡ rs
 front_is bytes rs count is number =
@@ -61,13 +77,13 @@ pub agrees_by : (job : ℕ) (f : Fence) (bytes : List ℕ) (rs : List Record) �
 agrees_by job f bytes rs is agrees = true_of_all (is_within job) rs (subst (AllByRecursion (IsWithin job)) (one_block bytes agrees.records rs agrees.block is) agrees.within)
 
 module _ (file : List ℕ) (job end : ℕ) (f : Fence) where
-  pub block_of : Agrees job f (block_at file f) → 12 ≤ f.at → f.at + f.len ≤ end → end ≤ length file → IsBlockIn file job end f
-  block_of agrees behind ends inside =
+  pub block_of : Agrees job f (block_at file f) → 12 ≤ f.at → f.at + f.len ≤ end → length (block_at file f) ≡ f.len → IsBlockIn file job end f
+  block_of agrees behind ends whole =
       let same : agrees.records ≡ records_at file f = sym (front_is (block_at file f) agrees.records f.count agrees.block agrees.count) in
       record {
         block = record {
           behind = behind;
-          inside = omega (arith, ends, inside);
+          inside = block_inside file f.at f.len agrees.records whole agrees.block;
           block = subst (IsBlock (block_at file f)) same agrees.block;
           count = sym (ap length same) ∙ agrees.count;
           first = sym (ap first_key same) ∙ agrees.first;
@@ -138,28 +154,28 @@ module _ (file : List ℕ) (job end : ℕ) where
   all_within [] all = tt
   all_within (f ∷ fs) all = all_append (IsWithin job) (records_at file f) (records_by file fs) all.0.within (all_within fs all.1)
 
-  module _ (at len : ℕ) (inside : end ≤ length file) where
+  module _ (at len : ℕ) where
     -- where no index may lie, there is no table
     pub lies_of : (fs : List Fence) → IsTableAt file job at len end fs → Lies at len most_bytes end
     lies_of fs is = record {
       behind = is.index.behind;
-      short = omega (arith, short (part file at len) fs is.index.index, length-take len (drop at file), length-drop at file, is.index_ends, inside);
+      short = omega (arith, short (part file at len) fs is.index.index, part_length file at len, is.index.inside);
       ends = is.index_ends;
     }
 
-    pub table_by : (fs : List Fence) → Lies at len most_bytes end → IsIndex (part file at len) fs → AllByRecursion (IsBlockIn file job end) fs → IsTableAt file job at len end fs
-    table_by fs lies index all = record {
-      index = record { behind = lies.behind; inside = omega (arith, lies.ends, inside); index = index };
-      index_ends = lies.ends;
+    pub table_by : (fs : List Fence) → at + len ≤ end → IsIndexAt file at len fs → AllByRecursion (IsBlockIn file job end) fs → IsTableAt file job at len end fs
+    table_by fs ends index all = record {
+      index = index;
+      index_ends = ends;
       each = each_block fs all;
       each_ends = each_end fs all;
       within = all_within fs all;
     }
 
     -- where a block of the index's one list is missing, there is no table
-    pub no_table : (fs : List Fence) → IsIndex (part file at len) fs → ¬ (AllByRecursion (IsBlockIn file job end) fs) → IsNoTable file job at len end
+    pub no_table : (fs : List Fence) → IsIndexAt file at len fs → ¬ (AllByRecursion (IsBlockIn file job end) fs) → IsNoTable file job at len end
     no_table fs index out gs is =
-        let same = one_list (part file at len) gs fs is.index.index index in
+        let same = one_list (part file at len) gs fs is.index.index index.index in
         out (subst (AllByRecursion (IsBlockIn file job end)) same (blocks_in gs is.each is.each_ends is.within))
 
     pub stored_by : (t : Table) → IsTableAt file job at len end t.fences → t.index_at ≡ at → t.index_len ≡ len → t.blocks ≡ blocks_by file t.fences → IsTableOf file t

@@ -1,11 +1,9 @@
 -- Tables that are read back from the bytes of a log.
-use Rattle.std.proofs.Common.{◌≡◌, ℕ, suc, ◌+◌, ◌≤◌, Bool, true, false, List, [], ◌∷◌, ◌++◌, ◌&&◌, ◌-◌, length, take, drop, refl, sym, ap, subst, ◌∙◌, arith, length-append, length-take, length-drop}
+use Rattle.std.proofs.Common.{◌≡◌, ℕ, ◌+◌, ◌≤◌, Bool, true, false, List, [], ◌∷◌, ◌++◌, ◌&&◌, ◌-◌, length, take, drop, refl, sym, ap, subst, ◌∙◌, arith, length-append, length-take, length-drop}
 use Rattle.std.specs.Prelude.{IsErrOf, IsTrue, Result, Some, flat_map, min, slice_get}
-use Rattle.std.specs.Int.{w16, w32, to_be_bytes}
+use Rattle.std.specs.Int.{w16, to_be_bytes}
 use Rattle.std.specs.List.{AllByRecursion, list_all}
 use Rattle.std.proofs.lemmas.List.{drop_at}
-use Rattle.std.proofs.lemmas.Option.{get_or_from_slice_get, slice_get_within}
-use Rattle.std.proofs.Math.Seq.{take-suc}
 use Rattle.dfs_host.specs.Fault.{NoFault}
 use Rattle.dfs_host.specs.Host.{HostState}
 use Rattle.dfs_host.specs.declared.fault.Fault.TheVariants.{Disk as DiskFault}
@@ -15,7 +13,7 @@ use Rattle.dfs_block.specs.Block.{IsBlock, first_key, last_key}
 use Rattle.dfs_block.specs.Front.{records_front}
 use Rattle.dfs_block.proofs.Blocks.{front_all, one_list as one_block}
 use Rattle.dfs_fence.specs.declared.fence.Fence.{Fence}
-use Rattle.dfs_fence.specs.Index.{IsIndex, fence_bytes, most_bytes}
+use Rattle.dfs_fence.specs.Index.{most_bytes}
 use Rattle.dfs_fence.proofs.Indexes.{one_list, short}
 use Rattle.dfs_fence.proofs.Spelled.{all_more, flat_more}
 use Rattle.dfs_table.specs.declared.open.OpenFault.{OpenFault}
@@ -24,6 +22,7 @@ use Rattle.dfs_table.specs.declared.open.OpenFault.TheVariants.{Fault}
 use Rattle.dfs_table.specs.Identities.{IsWithin, is_within}
 use Rattle.dfs_table.specs.Opened.{Agrees, EndsBy, HasOpenCause, IsBlockIn, IsNoTable, IsTableAt, Lies}
 use Rattle.dfs_table.specs.Stored.{IsBlockOf, IsIndexAt, IsTableOf, block_at, blocks_by, part, records_at, records_by}
+use Rattle.dfs_table.proofs.Counting.{take_next}
 use Rattle.dfs_table.proofs.Stays.{all_append, all_behind, all_front}
 
 first : (a b : Bool) → (a && b) ≡ true → a ≡ true
@@ -49,18 +48,10 @@ true_of_all test (x ∷ xs) all = both (test x) (list_all test xs) all.0 (true_o
 pub part_length : (file : List ℕ) (at len : ℕ) → length (part file at len) ≡ min len (length file - at)
 part_length file at len = length-take len (drop at file) ∙ ap (min len) (length-drop at file)
 
--- a part that has as many bytes as were asked for, and one at least, lies inside the file
-part_inside : (file : List ℕ) (at len : ℕ) → length (part file at len) ≡ len → 1 ≤ len → at + len ≤ length file
-part_inside file at len whole some = omega (arith, whole, some, part_length file at len)
-
--- what was read whole and is an index or a block lies inside the file
-pub index_inside : (file : List ℕ) (at len : ℕ) (fs : List Fence) → length (part file at len) ≡ len → IsIndex (part file at len) fs → at + len ≤ length file
-index_inside file at len fs whole is =
-    part_inside file at len whole (omega (arith, whole, ap length is.spelled, length-append (to_be_bytes w32 (length fs)) (flat_map fence_bytes fs)))
-
+-- a block of which all bytes were read lies inside the file
 pub block_inside : (file : List ℕ) (at len : ℕ) (rs : List Record) → length (part file at len) ≡ len → IsBlock (part file at len) rs → at + len ≤ length file
 block_inside file at len rs whole is =
-    part_inside file at len whole (omega (arith, whole, ap length is.spelled, length-append (to_be_bytes w16 (length rs)) (flat_map spelling rs)))
+    omega (arith, whole, part_length file at len, ap length is.spelled, length-append (to_be_bytes w16 (length rs)) (flat_map spelling rs))
 
 -- the records of a block are those that its fence counts behind the first two bytes
 pub front_is : (bytes : List ℕ) (rs : List Record) (count : ℕ) → IsBlock bytes rs → length rs ≡ count → records_front count (drop 2 bytes) ≡ rs
@@ -93,16 +84,6 @@ module _ (file : List ℕ) (job end : ℕ) (f : Fence) where
         within = subst (AllByRecursion (IsWithin job)) same agrees.within;
       }
 
-  pub agrees_of : IsBlockIn file job end f → Agrees job f (block_at file f)
-  agrees_of is = record {
-    records = records_at file f;
-    block = is.block.block;
-    count = is.block.count;
-    first = is.block.first;
-    last = is.block.last;
-    within = is.within;
-  }
-
 -- ---- runs of reads
 
 pub no_fault_by : {T : Type 0} {old mid new : HostState} {result : Result T OpenFault} → NoFault old mid → HasOpenCause mid new result → (IsErrOf result (Fault DiskFault) → ⊥) → NoFault old new
@@ -115,11 +96,6 @@ no_fault_by before cause other = record {
 }
 
 -- one fence more
-
-pub take_next : (fs : List Fence) (i : ℕ) (f : Fence) → slice_get fs i ≡ Some f → take (i + 1) fs ≡ take i fs ++ f ∷ []
-take_next fs i f at =
-    let more : i + 1 ≡ suc i = omega arith in
-    ap (λ n. take n fs) more ∙ take-suc fs i f (slice_get_within fs i f at) ∙ ap (λ (g : Fence). take i fs ++ g ∷ []) (get_or_from_slice_get fs i f f at)
 
 pub each_next : (P : Fence → Type 0) (fs : List Fence) (i : ℕ) (f : Fence) → slice_get fs i ≡ Some f → AllByRecursion P (take i fs) → P f → AllByRecursion P (take (i + 1) fs)
 each_next P fs i f at each here = subst (AllByRecursion P) (sym (take_next fs i f at)) (all_more P (take i fs) f each here)

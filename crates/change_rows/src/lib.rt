@@ -1,4 +1,7 @@
-//! A caller of change sets in logs, and worked logs over a host in memory.
+//! A caller of change sets in logs, and worked logs over a host in memory. Nothing stands on it.
+//!
+//! `publish_and_find` shows that a log that was sealed opens, on every host that tells, and that its change set answers a key with
+//! what was published.
 #![tactic(auto)]
 
 ghost use Rattle.std.specs.Prelude.{◌≡◌, ◌∷◌, [], ℕ, List, IsErrOf, IsFalse, IfOk};

@@ -2,8 +2,7 @@
 use Rattle.std.proofs.Common.{◌≡◌, ◌≤◌, ◌+◌, ◌++◌, ◌∷◌, [], zero, suc, ℕ, List, length, take, drop, refl, ◌∙◌, sym, ap, subst, arith, slice_get, Some}
 use Rattle.std.specs.List.{AllByRecursion}
 use Rattle.std.proofs.lemmas.Grind.{flat_map-append}
-use Rattle.std.proofs.lemmas.List.{length-append, length-drop, length-map, length-take, map-append, take-append-drop, take_more}
-use Rattle.std.proofs.lemmas.Option.{get_or_from_slice_get, slice_get_within}
+use Rattle.std.proofs.lemmas.List.{length-append, length-drop, length-map, length-take, map-append, take-append-drop}
 use Rattle.dfs_record.specs.Delta.{delta}
 use Rattle.dfs_fence.specs.declared.fence.Fence.{Fence}
 use Rattle.dfs_fence.specs.Index.{AreApart}
@@ -18,13 +17,11 @@ use Rattle.dfs_table.specs.Opened.{IsNoTable, IsTableAt}
 use Rattle.dfs_table.specs.Identities.{IsWithin}
 use Rattle.dfs_table.specs.Stored.{part, records_by, run_records, table_records}
 use Rattle.dfs_table.specs.Tables.{AreTables, all_fences}
+use Rattle.dfs_table.proofs.Counting.{take_next}
 use Rattle.dfs_table.proofs.Rising.{all_records}
 use Rattle.dfs_table.proofs.Stays.{all_append}
 use Rattle.dfs_change.specs.Whole.{AreTablesAt, HasChanges, IsDamaged, IsLogged, IsWhole, end_of, extents_of, joined, reads_of, table_fences}
 use Rattle.dfs_change.proofs.Ended.{joined_fences}
-
-take_next : (ts : List Extent) (i : ℕ) (t : Extent) → slice_get ts i ≡ Some t → take (i + 1) ts ≡ take i ts ++ t ∷ []
-take_next ts i t is = take_more ts i t (slice_get_within ts i t is) ∙ ap (λ (e : Extent). take i ts ++ e ∷ []) (get_or_from_slice_get ts i t t is)
 
 apart_front : (xs ys : List Fence) → AreApart (xs ++ ys) → AreApart xs
 apart_front [] ys apart = tt
@@ -134,11 +131,6 @@ module _ (file : List ℕ) (l : Listed) where
     whole = whole;
     changes = ap delta (all_records file tables ∙ ap (records_by file) (sym (joined_fences tables)));
   }
-
-  pub other_tables : (ts : List Extent) → IsManifest (part file l.at l.len) ts → ((fss : List (List Fence)) → AreTablesAt file l ts fss → ¬ (AreApart (joined fss))) → IsDamaged file l
-  other_tables ts manifest out us gss whole =
-      let same = one_manifest (part file l.at l.len) us ts whole.manifest manifest in
-      out gss (subst (λ es. AreTablesAt file l es gss) same whole.tables) whole.rise
 
   pub too_long : ¬ (l.len ≤ 1572868) → IsDamaged file l
   too_long long us gss whole = long (omega (arith, short (part file l.at l.len) us whole.manifest, length-take l.len (drop l.at file), length-drop l.at file, whole.logged.inside))

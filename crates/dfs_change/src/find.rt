@@ -16,8 +16,8 @@ use dfs_record::{KeyRef, Value};
 use std::alloc::Global;
 
 impl Change {
-    /// The value that the change set has for the key, and `None` exactly where it has none. The one table that may have the key is
-    /// found by halves, and in it the one block. No call is made on the host: the run holds the bytes of its blocks.
+    /// The value that the change set has for the key, and `None` exactly where it has none. Binary searches find the one table that
+    /// may have the key, and in it the one block. No call is made on the host: the run holds the bytes of its blocks.
     pub fn find<H: Host>(
         &self,
         alloc: Global,
@@ -25,7 +25,7 @@ impl Change {
         key: KeyRef<'_>,
     ) -> Result<Option<Value>, Fault>
         requires stored { Told (H.state host.old) (AllByRecursion (IsTableOf (bytes_of (H.state host.old) self.now.listed.job)) self.now.run.value.tables) }
-        requires file { AreIn self.now.listed.job self.now.run.value.tables }
+        requires file { Told (H.state host.old) (AreIn self.now.listed.job self.now.run.value.tables) }
 
         ensures value { Told (H.state host.old) (IfOk result (λ found. found ≡ last_value (key_of key.entry) (run_records (bytes_of (H.state host.old) self.now.listed.job) self.now.run.value.tables))) }
         ensures valid { IfOk result (λ found. IfSome found IsValue) }

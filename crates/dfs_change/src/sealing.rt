@@ -1,6 +1,6 @@
 //! Runs that are sealed in the log that they lie in.
 
-ghost use Rattle.std.specs.Prelude.{◌≡◌, ◌≤◌, ◌<◌, ◌+◌, ◌*◌, ◌++◌, ◌↔◌, ℕ, List, length, take, IsTrue, IsFalse, IsErrOf, IfOk, OnOk};
+ghost use Rattle.std.specs.Prelude.{◌≡◌, ◌≤◌, ◌<◌, ◌+◌, ◌*◌, ◌++◌, ◌↔◌, ℕ, List, length, take, true, IsTrue, IsFalse, IsErrOf, IfOk, OnOk, OnErr};
 ghost use Rattle.std.specs.List.{AllByRecursion};
 ghost use Rattle.dfs_host.specs.Disk.{IsSettled};
 ghost use Rattle.dfs_host.specs.Fault.{HasFaultCause};
@@ -36,7 +36,7 @@ pub struct ChangeWriter;
 
 impl ChangeWriter {
     /// Appends the manifest of the run to the log that the run lies in, and settles the log. What was sealed is the log of a
-    /// publication, with the change set of the run's records. `LogFull` writes nothing, and after `NoMemory` host and log are as before.
+    /// publication, with the change set of the run's records. `LogFull` and `NoMemory` write nothing. After a fault the log is spent.
     pub fn finish<H: Host>(
         alloc: Global,
         host: &mut H,
@@ -69,8 +69,8 @@ impl ChangeWriter {
         ensures over { 0 < log.new.refused → log.new.limit < log.new.len + log.new.refused }
         ensures growth { log.new.len + log.new.refused ≤ log.old.len + (4 + 16 * length run.now.tables) }
         ensures nothing_written { IsErrOf result Fault.LogFull → H.state host.new ≡ H.state host.old }
-        ensures unchanged { IsErrOf result Fault.NoMemory → (H.state host.new ≡ H.state host.old) × (log.new ≡ log.old) }
-        ensures failed { IsErrOf result Fault.Disk → IsTrue log.new.spent }
+        ensures unchanged { IsErrOf result Fault.NoMemory → (H.state host.new ≡ H.state host.old) × (log.new ≡ record log.old { spent = true }) }
+        ensures log_spent { OnErr result (IsTrue log.new.spent) }
         ensures never_changed { (file at : ℕ) → IsErrOf result (Fault.Changed file at) → ⊥ }
         ensures only { Only log.old.file (H.state host.old) (H.state host.new) }
         ensures cause { HasFaultCause (H.state host.old) (H.state host.new) result }
@@ -80,6 +80,7 @@ impl ChangeWriter {
         let at = log.len();
         let count = run.count();
         let Ok(bytes) = manifest(alloc, &run.tables) else {
+            log.spend();
             return Err(Fault::NoMemory);
         };
         log.append(host, &bytes)?;

@@ -26,7 +26,7 @@ use Rattle.dfs_compact.proofs.Cutting.{merged_few, merged_part_is, merged_rises,
 use Rattle.dfs_compact.proofs.Ranges.{part_few}
 use Rattle.dfs_compact.proofs.Staying.{set_at, set_length}
 
-blocks_counted : (file : List ℕ) (fs : List Fence) → AllByRecursion (IsBlockOf file) fs → length (records_by file fs) ≡ count_of fs
+pub blocks_counted : (file : List ℕ) (fs : List Fence) → AllByRecursion (IsBlockOf file) fs → length (records_by file fs) ≡ count_of fs
 blocks_counted file [] each = refl
 blocks_counted file (f ∷ fs) each = omega (arith, length-append (records_at file f) (records_by file fs), each.0.count, blocks_counted file fs each.1, sum_by-cons (λ (f : Fence). f.count) f fs)
 

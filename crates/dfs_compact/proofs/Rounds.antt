@@ -5,7 +5,6 @@ use Rattle.std.specs.List.{sum_by}
 use Rattle.std.proofs.lemmas.Grind.{flat_map-append}
 use Rattle.std.proofs.lemmas.List.{map-append, take_more}
 use Rattle.std.proofs.lemmas.List.Sums.{sum_by-append, sum_by-cons}
-use Rattle.std.proofs.lemmas.Option.{get_or_from_slice_get, slice_get_within}
 use Rattle.dfs_record.specs.Delta.{Delta}
 use Rattle.dfs_record.specs.Records.{Files}
 use Rattle.dfs_fence.specs.declared.fence.Fence.{Fence}
@@ -13,21 +12,19 @@ use Rattle.dfs_table.specs.declared.run.Run.{Run}
 use Rattle.dfs_table.specs.declared.table.Table.{Table}
 use Rattle.dfs_table.specs.Counts.{count_of}
 use Rattle.dfs_table.specs.Tables.{all_fences}
+use Rattle.dfs_table.proofs.Counting.{take_next}
 use Rattle.dfs_compact.specs.Parts.{AreSources, IsSource, count_all, fences_in, first_keys}
 
 pub one_further : {A : Type 0} (xs : List A) (i : ℕ) (x : A) → i < length xs → x ≡ get_or xs i x → take (i + 1) xs ≡ take i xs ++ x ∷ []
 one_further xs i x lt is = take_more xs i x lt ∙ ap (λ y. take i xs ++ y ∷ []) (sym is)
 
-pub one_at : {A : Type 0} (xs : List A) (i : ℕ) (x : A) → slice_get xs i ≡ Some x → take (i + 1) xs ≡ take i xs ++ x ∷ []
-one_at xs i x at = one_further xs i x (slice_get_within xs i x at) (sym (get_or_from_slice_get xs i x x at))
-
 pub map_at : {A B : Type 0} (f : A → B) (xs : List A) (i : ℕ) (x : A) → slice_get xs i ≡ Some x → map f (take (i + 1) xs) ≡ map f (take i xs) ++ f x ∷ []
-map_at f xs i x at = ap (map f) (one_at xs i x at) ∙ map-append f (take i xs) (x ∷ [])
+map_at f xs i x at = ap (map f) (take_next xs i x at) ∙ map-append f (take i xs) (x ∷ [])
 
 -- the first keys of one more table
 pub keys_of_table : (ts : List Table) (i : ℕ) (t : Table) → slice_get ts i ≡ Some t → map (λ (f : Fence). f.first) (all_fences (take (i + 1) ts)) ≡ map (λ (f : Fence). f.first) (all_fences (take i ts)) ++ map (λ (f : Fence). f.first) t.fences
 keys_of_table ts i t at =
-    ap (λ l. map (λ (f : Fence). f.first) (all_fences l)) (one_at ts i t at)
+    ap (λ l. map (λ (f : Fence). f.first) (all_fences l)) (take_next ts i t at)
     ∙ ap (map (λ (f : Fence). f.first)) (flat_map-append (λ (t : Table). t.fences) (take i ts) (t ∷ []) ∙ ap (λ l. all_fences (take i ts) ++ l) (append-nil t.fences))
     ∙ map-append (λ (f : Fence). f.first) (all_fences (take i ts)) t.fences
 

@@ -1,3 +1,2 @@
 pub mod Compaction
-pub mod Cursors
 pub mod Parts

@@ -99,7 +99,7 @@ impl Compaction {
     }
 
     /// Merges the part with this number: its records of the sources are written to the log as tables. The log is that of the parts
-    /// merged before. After a fault the compaction is spent.
+    /// merged before. After a fault the compaction and the log are spent.
     pub fn part<H: Host>(
         &mut self,
         alloc: Global,
@@ -129,6 +129,7 @@ impl Compaction {
         ensures file { OnOk result (AreIn log.old.file (tables_of self.new.merged)) }
         ensures live { OnOk result (IsFalse self.new.spent × IsFalse log.new.spent) }
         ensures spent { OnErr result (IsTrue self.new.spent) }
+        ensures log_spent { OnErr result (IsTrue log.new.spent) }
 
         // What the log had stays, also where a device call failed.
         ensures log { Told (H.state host.old) (OnOk result (LogStands (H.state host.new) log.new)) }
@@ -187,6 +188,7 @@ impl Compaction {
             left,
         )?;
         let Ok(()) = self.keep(index, run) else {
+            log.spend();
             return Err(Fault::NoMemory);
         };
         self.spent = false;

@@ -1,6 +1,6 @@
 //! A part of the sources, merged.
 
-ghost use Rattle.std.specs.Prelude.{◌≡◌, ◌≤◌, ◌<◌, ◌+◌, ◌*◌, ◌⊎◌, ℕ, List, length, take, map, IsFalse, IsErrOf, IfOk, OnOk, option_copied};
+ghost use Rattle.std.specs.Prelude.{◌≡◌, ◌≤◌, ◌<◌, ◌+◌, ◌*◌, ◌⊎◌, ℕ, List, length, take, map, IsFalse, IsTrue, IsErrOf, IfOk, OnOk, OnErr, option_copied};
 ghost use Rattle.std.specs.List.{AllByRecursion, sum_by};
 ghost use Rattle.dfs_host.specs.Fault.{HasFaultCause};
 ghost use Rattle.dfs_host.specs.Host.{Told, bytes_of, Only};
@@ -67,10 +67,12 @@ pub(crate) fn write_part<H: Host>(
     ensures cause { HasFaultCause (H.state host.old) (H.state host.new) result }
     ensures reads { (H.state host.new).reads ≡ (H.state host.old).reads }
     ensures same { (log.new.file ≡ log.old.file) × (log.new.limit ≡ log.old.limit) }
+    ensures log_spent { OnErr result (IsTrue log.new.spent) }
 {
     let _ = log.len();
     let (low, high) = plan.range(part);
     let Ok(records) = merged(alloc, sources, low, high) else {
+        log.spend();
         return Err(Fault::NoMemory);
     };
     write_tables(alloc, host, log, records, tables_left)

@@ -131,6 +131,14 @@ impl LogWriter {
         }
     }
 
+    /// Ends the writer, for a caller that stopped short of what it was to append.
+    pub fn spend(&mut self)
+        ensures spent { self.new ≡ record self.old { spent = true } }
+        ensures sound { IsLog self.new }
+    {
+        self.spent = true;
+    }
+
     /// Settles the log: what it has survives a crash. After `Failed` the writer is spent.
     pub fn seal<H: Host>(&mut self, host: &mut H) -> Result<(), Failed>
         requires live { IsFalse self.old.spent }

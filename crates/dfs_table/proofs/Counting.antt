@@ -17,11 +17,11 @@ fence_count_fits fs i f are is = (subst IsFence (get_or_from_slice_get fs i f f 
 pub count_more : (fs : List Fence) (i : ℕ) (f : Fence) → slice_get fs i ≡ Some f → count_of (take (i + 1) fs) ≡ count_of (take i fs) + f.count
 count_more fs i f is = sum_by_more (λ (f : Fence). f.count) fs i f (slice_get_within fs i f is) ∙ ap (λ (g : Fence). count_of (take i fs) + g.count) (get_or_from_slice_get fs i f f is)
 
-pub tables_more : (ts : List Table) (i : ℕ) (t : Table) → slice_get ts i ≡ Some t → take (i + 1) ts ≡ take i ts ++ t ∷ []
-tables_more ts i t is = take_more ts i t (slice_get_within ts i t is) ∙ ap (λ x. take i ts ++ x ∷ []) (get_or_from_slice_get ts i t t is)
+pub take_next : {X : Type 0} (xs : List X) (i : ℕ) (x : X) → slice_get xs i ≡ Some x → take (i + 1) xs ≡ take i xs ++ x ∷ []
+take_next xs i x is = take_more xs i x (slice_get_within xs i x is) ∙ ap (λ y. take i xs ++ y ∷ []) (get_or_from_slice_get xs i x x is)
 
 pub count_table_more : (ts : List Table) (i : ℕ) (t : Table) → slice_get ts i ≡ Some t → count_of (all_fences (take (i + 1) ts)) ≡ count_of (all_fences (take i ts)) + count_of t.fences
 count_table_more ts i t is =
-    ap (λ l. count_of (all_fences l)) (tables_more ts i t is)
+    ap (λ l. count_of (all_fences l)) (take_next ts i t is)
     ∙ ap count_of (flat_map-append (λ (t : Table). t.fences) (take i ts) (t ∷ []) ∙ ap (λ l. all_fences (take i ts) ++ l) (append-nil t.fences))
     ∙ sum_by-append (λ (f : Fence). f.count) (all_fences (take i ts)) t.fences

@@ -11,7 +11,7 @@ use Rattle.dfs_fence.proofs.Apart.{above_last, above_of, last_is}
 use Rattle.dfs_fence.proofs.Spelled.{some_is}
 use Rattle.dfs_table.specs.declared.table.Table.{Table}
 use Rattle.dfs_table.specs.Tables.{all_fences}
-use Rattle.dfs_table.proofs.Counting.{tables_more}
+use Rattle.dfs_table.proofs.Counting.{take_next}
 
 last_behind_all : (xs ys : List Fence) → 1 ≤ length ys → last_end (xs ++ ys) ≡ last_end ys
 last_behind_all xs [] some = absurd (omega (arith, some))
@@ -26,7 +26,7 @@ pub last_of_all : (ts : List Table) (t : Table) (f : Fence) → slice_get ts (le
 last_of_all ts t f last_table last_fence =
     let n = length ts - 1 in
     let all : take (n + 1) ts ≡ ts = take_all (n + 1) ts (omega (arith, slice_get_within ts n t last_table)) in
-    let split : ts ≡ take n ts ++ t ∷ [] = sym all ∙ tables_more ts n t last_table in
+    let split : ts ≡ take n ts ++ t ∷ [] = sym all ∙ take_next ts n t last_table in
     ap (λ l. last_end (all_fences l)) split ∙ ap last_end (fences_more (take n ts) t)
     ∙ last_behind_all (all_fences (take n ts)) t.fences (omega (arith, slice_get_within t.fences (length t.fences - 1) f last_fence)) ∙ last_is t.fences f last_fence
 

@@ -1,11 +1,9 @@
 -- Tables that are read back from the bytes of a log.
-use Rattle.std.proofs.Common.{◌≡◌, ℕ, suc, ◌+◌, ◌≤◌, Bool, true, false, List, [], ◌∷◌, ◌++◌, ◌&&◌, length, take, drop, refl, sym, ap, subst, ◌∙◌, arith, length-take, length-drop}
-use Rattle.std.specs.Prelude.{IsErrOf, IsTrue, Result, Some, flat_map, slice_get}
+use Rattle.std.proofs.Common.{◌≡◌, ℕ, ◌+◌, ◌≤◌, Bool, true, false, List, [], ◌∷◌, ◌++◌, ◌&&◌, ◌-◌, length, take, drop, refl, sym, ap, subst, ◌∙◌, arith, length-append, length-take, length-drop}
+use Rattle.std.specs.Prelude.{IsErrOf, IsTrue, Result, Some, flat_map, min, slice_get}
 use Rattle.std.specs.Int.{w16, to_be_bytes}
 use Rattle.std.specs.List.{AllByRecursion, list_all}
 use Rattle.std.proofs.lemmas.List.{drop_at}
-use Rattle.std.proofs.lemmas.Option.{get_or_from_slice_get, slice_get_within}
-use Rattle.std.proofs.Math.Seq.{take-suc}
 use Rattle.dfs_host.specs.Fault.{NoFault}
 use Rattle.dfs_host.specs.Host.{HostState}
 use Rattle.dfs_host.specs.declared.fault.Fault.TheVariants.{Disk as DiskFault}
@@ -15,7 +13,7 @@ use Rattle.dfs_block.specs.Block.{IsBlock, first_key, last_key}
 use Rattle.dfs_block.specs.Front.{records_front}
 use Rattle.dfs_block.proofs.Blocks.{front_all, one_list as one_block}
 use Rattle.dfs_fence.specs.declared.fence.Fence.{Fence}
-use Rattle.dfs_fence.specs.Index.{IsIndex, most_bytes}
+use Rattle.dfs_fence.specs.Index.{most_bytes}
 use Rattle.dfs_fence.proofs.Indexes.{one_list, short}
 use Rattle.dfs_fence.proofs.Spelled.{all_more, flat_more}
 use Rattle.dfs_table.specs.declared.open.OpenFault.{OpenFault}
@@ -24,6 +22,7 @@ use Rattle.dfs_table.specs.declared.open.OpenFault.TheVariants.{Fault}
 use Rattle.dfs_table.specs.Identities.{IsWithin, is_within}
 use Rattle.dfs_table.specs.Opened.{Agrees, EndsBy, HasOpenCause, IsBlockIn, IsNoTable, IsTableAt, Lies}
 use Rattle.dfs_table.specs.Stored.{IsBlockOf, IsIndexAt, IsTableOf, block_at, blocks_by, part, records_at, records_by}
+use Rattle.dfs_table.proofs.Counting.{take_next}
 use Rattle.dfs_table.proofs.Stays.{all_append, all_behind, all_front}
 
 first : (a b : Bool) → (a && b) ≡ true → a ≡ true
@@ -46,6 +45,14 @@ pub true_of_all : {X : Type 0} (test : X → Bool) (xs : List X) → AllByRecurs
 true_of_all test [] all = refl
 true_of_all test (x ∷ xs) all = both (test x) (list_all test xs) all.0 (true_of_all test xs all.1)
 
+pub part_length : (file : List ℕ) (at len : ℕ) → length (part file at len) ≡ min len (length file - at)
+part_length file at len = length-take len (drop at file) ∙ ap (min len) (length-drop at file)
+
+-- a block of which all bytes were read lies inside the file
+pub block_inside : (file : List ℕ) (at len : ℕ) (rs : List Record) → length (part file at len) ≡ len → IsBlock (part file at len) rs → at + len ≤ length file
+block_inside file at len rs whole is =
+    omega (arith, whole, part_length file at len, ap length is.spelled, length-append (to_be_bytes w16 (length rs)) (flat_map spelling rs))
+
 -- the records of a block are those that its fence counts behind the first two bytes
 pub front_is : (bytes : List ℕ) (rs : List Record) (count : ℕ) → IsBlock bytes rs → length rs ≡ count → records_front count (drop 2 bytes) ≡ rs
 front_is bytes rs count is number =
@@ -61,13 +68,13 @@ pub agrees_by : (job : ℕ) (f : Fence) (bytes : List ℕ) (rs : List Record) �
 agrees_by job f bytes rs is agrees = true_of_all (is_within job) rs (subst (AllByRecursion (IsWithin job)) (one_block bytes agrees.records rs agrees.block is) agrees.within)
 
 module _ (file : List ℕ) (job end : ℕ) (f : Fence) where
-  pub block_of : Agrees job f (block_at file f) → 12 ≤ f.at → f.at + f.len ≤ end → end ≤ length file → IsBlockIn file job end f
-  block_of agrees behind ends inside =
+  pub block_of : Agrees job f (block_at file f) → 12 ≤ f.at → f.at + f.len ≤ end → length (block_at file f) ≡ f.len → IsBlockIn file job end f
+  block_of agrees behind ends whole =
       let same : agrees.records ≡ records_at file f = sym (front_is (block_at file f) agrees.records f.count agrees.block agrees.count) in
       record {
         block = record {
           behind = behind;
-          inside = omega (arith, ends, inside);
+          inside = block_inside file f.at f.len agrees.records whole agrees.block;
           block = subst (IsBlock (block_at file f)) same agrees.block;
           count = sym (ap length same) ∙ agrees.count;
           first = sym (ap first_key same) ∙ agrees.first;
@@ -76,16 +83,6 @@ module _ (file : List ℕ) (job end : ℕ) (f : Fence) where
         ends = ends;
         within = subst (AllByRecursion (IsWithin job)) same agrees.within;
       }
-
-  pub agrees_of : IsBlockIn file job end f → Agrees job f (block_at file f)
-  agrees_of is = record {
-    records = records_at file f;
-    block = is.block.block;
-    count = is.block.count;
-    first = is.block.first;
-    last = is.block.last;
-    within = is.within;
-  }
 
 -- ---- runs of reads
 
@@ -99,11 +96,6 @@ no_fault_by before cause other = record {
 }
 
 -- one fence more
-
-pub take_next : (fs : List Fence) (i : ℕ) (f : Fence) → slice_get fs i ≡ Some f → take (i + 1) fs ≡ take i fs ++ f ∷ []
-take_next fs i f at =
-    let more : i + 1 ≡ suc i = omega arith in
-    ap (λ n. take n fs) more ∙ take-suc fs i f (slice_get_within fs i f at) ∙ ap (λ (g : Fence). take i fs ++ g ∷ []) (get_or_from_slice_get fs i f f at)
 
 pub each_next : (P : Fence → Type 0) (fs : List Fence) (i : ℕ) (f : Fence) → slice_get fs i ≡ Some f → AllByRecursion P (take i fs) → P f → AllByRecursion P (take (i + 1) fs)
 each_next P fs i f at each here = subst (AllByRecursion P) (sym (take_next fs i f at)) (all_more P (take i fs) f each here)
@@ -138,28 +130,28 @@ module _ (file : List ℕ) (job end : ℕ) where
   all_within [] all = tt
   all_within (f ∷ fs) all = all_append (IsWithin job) (records_at file f) (records_by file fs) all.0.within (all_within fs all.1)
 
-  module _ (at len : ℕ) (inside : end ≤ length file) where
+  module _ (at len : ℕ) where
     -- where no index may lie, there is no table
     pub lies_of : (fs : List Fence) → IsTableAt file job at len end fs → Lies at len most_bytes end
     lies_of fs is = record {
       behind = is.index.behind;
-      short = omega (arith, short (part file at len) fs is.index.index, length-take len (drop at file), length-drop at file, is.index_ends, inside);
+      short = omega (arith, short (part file at len) fs is.index.index, part_length file at len, is.index.inside);
       ends = is.index_ends;
     }
 
-    pub table_by : (fs : List Fence) → Lies at len most_bytes end → IsIndex (part file at len) fs → AllByRecursion (IsBlockIn file job end) fs → IsTableAt file job at len end fs
-    table_by fs lies index all = record {
-      index = record { behind = lies.behind; inside = omega (arith, lies.ends, inside); index = index };
-      index_ends = lies.ends;
+    pub table_by : (fs : List Fence) → at + len ≤ end → IsIndexAt file at len fs → AllByRecursion (IsBlockIn file job end) fs → IsTableAt file job at len end fs
+    table_by fs ends index all = record {
+      index = index;
+      index_ends = ends;
       each = each_block fs all;
       each_ends = each_end fs all;
       within = all_within fs all;
     }
 
     -- where a block of the index's one list is missing, there is no table
-    pub no_table : (fs : List Fence) → IsIndex (part file at len) fs → ¬ (AllByRecursion (IsBlockIn file job end) fs) → IsNoTable file job at len end
+    pub no_table : (fs : List Fence) → IsIndexAt file at len fs → ¬ (AllByRecursion (IsBlockIn file job end) fs) → IsNoTable file job at len end
     no_table fs index out gs is =
-        let same = one_list (part file at len) gs fs is.index.index index in
+        let same = one_list (part file at len) gs fs is.index.index index.index in
         out (subst (AllByRecursion (IsBlockIn file job end)) same (blocks_in gs is.each is.each_ends is.within))
 
     pub stored_by : (t : Table) → IsTableAt file job at len end t.fences → t.index_at ≡ at → t.index_len ≡ len → t.blocks ≡ blocks_by file t.fences → IsTableOf file t

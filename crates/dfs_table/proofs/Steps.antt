@@ -10,9 +10,9 @@ use Rattle.dfs_table.specs.Steps.{ClosesBlock, ClosesTable, IsReady}
 use Rattle.dfs_table.specs.declared.table.Table.{Table}
 use Rattle.dfs_table.specs.Tables.{all_fences}
 use Rattle.dfs_table.specs.Counts.{count_of}
-use Rattle.dfs_table.specs.Writer.{AddsBlock, AddsTable, IsFull, IsSound, WriterStands, WriterState, begun, count_in, fences_of, owed, pushed, table_len, wrote}
+use Rattle.dfs_table.specs.Writer.{AddsBlock, AddsTable, IsFull, IsSound, WriterStands, WriterState, begun, count_in, fences_of, owed, pushed}
 use Rattle.dfs_table.proofs.Stays.{all_append}
-use Rattle.std.specs.List.{AllByRecursion, sum_by}
+use Rattle.std.specs.List.{AllByRecursion}
 use Rattle.std.proofs.lemmas.List.Sums.{sum_by-append, sum_by-cons}
 use Rattle.dfs_fence.specs.declared.fence.Fence.{Fence}
 use Rattle.dfs_table.proofs.Closing.{block_ends, block_fences, block_pushed, block_rises, block_stands, table_fences, table_pushed, table_stands}
@@ -154,20 +154,3 @@ blocks_enough w sound = omega (arith, counts_some (fences_of w) sound.some, leng
 
 pub closed_enough : (w : WriterState) → IsSound w → 4096 * length w.closed ≤ count_in w
 closed_enough w sound = omega (arith, blocks_enough w sound)
-
--- ---- what the steps wrote
-
-pub block_wrote : {place : ℕ} {old new : WriterState} → ClosesBlock place old new → wrote new ≡ wrote old + length (block_bytes old.records)
-block_wrote {old = old} step = omega (arith, ap length step.blocks, length-append old.blocks (block_bytes old.records), ap (sum_by table_len) step.closed)
-
-pub table_wrote : {job place : ℕ} {old new : WriterState} → ClosesTable job place old new → wrote new ≡ wrote old + length (index_bytes old.fences)
-table_wrote {old = old} step =
-    omega (
-      arith,
-      ap length step.blocks,
-      ap length step.table_blocks,
-      step.index_len,
-      ap (sum_by table_len) step.closed,
-      sum_by-append table_len old.closed (step.table ∷ []),
-      sum_by-cons table_len step.table [],
-    )

@@ -1,5 +1,6 @@
 pub mod Appending
 pub mod Counts
+pub mod Cursors
 pub mod Cut
 pub mod Identities
 pub mod Opened

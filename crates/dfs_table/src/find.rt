@@ -17,8 +17,8 @@ use dfs_record::{Key, KeyRef, Value, ValueRef};
 use std::alloc::Global;
 
 impl Table {
-    /// The value of the record with the key, and `None` exactly where no record has it. The block that may have it is found by
-    /// halves and not copied. No call is made on the host: the table holds the bytes of its blocks.
+    /// The value of the record with the key, and `None` exactly where no record has it. A binary search over the fences finds the
+    /// one block that may have it. No call is made on the host: the table holds the bytes of its blocks.
     pub fn find<H: Host>(
         &self,
         alloc: Global,

@@ -6,8 +6,8 @@
 //! the blocks that meet a range of keys.
 //!
 //! The definitions stand in `specs/`: when a table and a run are stored in a file, and which records they have, in `Stored`; what a
-//! writer stands for in `Writer`; which table lies at a place of a log in `Opened`; which one spans a key in `Spans`; what a cursor
-//! has before it in `RunRecords`.
+//! writer stands for in `Writer`; how records are cut into blocks and tables in `Cut`; which table lies at a place of a log in
+//! `Opened`; which one spans a key in `Spans`; what a cursor has before it in `RunRecords`.
 #![tactic(auto)]
 
 mod find;

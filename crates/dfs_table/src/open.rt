@@ -1,15 +1,15 @@
 //! Tables that are read back from a log.
 
-ghost use Rattle.std.specs.Prelude.{◌≡◌, ◌≤◌, ◌+◌, ◌++◌, ◌↔◌, ℕ, length, Some, IfOk, OnOk, IsErrOf, IsTrue};
+ghost use Rattle.std.specs.Prelude.{◌≡◌, ◌≤◌, ◌<◌, ◌+◌, ◌++◌, ◌↔◌, ℕ, List, length, Some, IfOk, OnOk, IsErrOf, IsTrue};
 ghost use Rattle.std.specs.List.{AllByRecursion};
 ghost use Rattle.dfs_block.specs.Block.{first_key, last_key};
-ghost use Rattle.dfs_fence.specs.Index.{IsIndex, IsNoIndex};
+ghost use Rattle.dfs_fence.specs.declared.fence.Fence.{Fence as AnyFence};
 ghost use Rattle.dfs_record.specs.Lend.{key_of};
 ghost use Rattle.dfs_host.specs.Counts.{RoseBy};
 ghost use Rattle.dfs_host.specs.Host.{Told, bytes_of, OnlyReads};
 ghost use Rattle.dfs_host.specs.declared.fault.Fault.{Fault as AnyFault};
 ghost use Rattle.dfs_table.specs.Opened.{Agrees, HasOpenCause, IsBlockIn, IsNoTable, IsTableAt, Lies};
-ghost use Rattle.dfs_table.specs.Stored.{IsTableOf, block_at, blocks_by, part};
+ghost use Rattle.dfs_table.specs.Stored.{IsIndexAt, IsTableOf, block_at, blocks_by, part};
 
 use crate::identities::are_within;
 use crate::{BlockBytes, Table};
@@ -54,7 +54,7 @@ const MOST_BLOCK_BYTES: u32 = 4096;
 
 impl Table {
     /// The table whose index has so many bytes at a place of a job's log. The index and each block are read once. `end` is the
-    /// place behind the last byte that the table may have.
+    /// place behind the last byte that the table may have. A table with a byte behind the file's end is malformed.
     pub fn open<H: Host>(
         alloc: Global,
         host: &mut H,
@@ -63,8 +63,6 @@ impl Table {
         len: u32,
         end: u64,
     ) -> Result<Table, OpenFault>
-        requires end { Told (H.state host.old) (end ≤ length (bytes_of (H.state host.old) file)) }
-
         ensures table { Told (H.state host.old) (IfOk result (λ table. IsTableAt (bytes_of (H.state host.old) file) file at len end table.fences)) }
         ensures stored { Told (H.state host.old) (IfOk result (λ table. IsTableOf (bytes_of (H.state host.old) file) table)) }
         ensures some { IfOk result (λ table. 1 ≤ length table.fences) }
@@ -95,11 +93,11 @@ fn lies(at: u64, len: u32, most: u32, end: u64) -> bool
     HEADER_LEN <= at && len <= most && at <= end && u64::from(len) <= end - at
 }
 
-// Fills the slice from a place of a file.
+// Fills the slice from a place of a file, which is malformed where it ends before.
 fn read_part<H: Host>(host: &mut H, file: u32, at: u64, out: &mut [u8]) -> Result<(), OpenFault>
-    requires inside { Told (H.state host.old) (at + length out.old ≤ length (bytes_of (H.state host.old) file)) }
     ensures part { Told (H.state host.old) (OnOk result (out.new ≡ part (bytes_of (H.state host.old) file) at (length out.old))) }
-    ensures never_short { Told (H.state host.old) (IsErrOf result OpenFault.Malformed → ⊥) }
+    ensures whole { Told (H.state host.old) (OnOk result (length (part (bytes_of (H.state host.old) file) at (length out.old)) ≡ length out.old)) }
+    ensures short { Told (H.state host.old) (IsErrOf result OpenFault.Malformed → length (bytes_of (H.state host.old) file) < at + length out.old) }
     ensures fault { (fault : AnyFault) → IsErrOf result (OpenFault.Fault fault) → fault ≡ Fault.Disk }
     ensures only { OnlyReads (H.state host.old) (H.state host.new) }
     ensures cause { HasOpenCause (H.state host.old) (H.state host.new) result }
@@ -120,10 +118,10 @@ fn read_index<H: Host>(
     at: u64,
     len: u32,
 ) -> Result<Fences, OpenFault>
-    requires inside { Told (H.state host.old) (at + len ≤ length (bytes_of (H.state host.old) file)) }
+    requires behind { 12 ≤ at }
     ensures some { IfOk result (λ fences. 1 ≤ length fences) }
-    ensures index { Told (H.state host.old) (IfOk result (λ fences. IsIndex (part (bytes_of (H.state host.old) file) at len) fences)) }
-    ensures malformed { Told (H.state host.old) (IsErrOf result OpenFault.Malformed → IsNoIndex (part (bytes_of (H.state host.old) file) at len)) }
+    ensures index { Told (H.state host.old) (IfOk result (IsIndexAt (bytes_of (H.state host.old) file) at len)) }
+    ensures malformed { Told (H.state host.old) (IsErrOf result OpenFault.Malformed → (fences : List AnyFence) → ¬ (IsIndexAt (bytes_of (H.state host.old) file) at len fences)) }
     ensures never_full { IsErrOf result (OpenFault.Fault Fault.LogFull) → ⊥ }
     ensures never_changed { (file at : ℕ) → IsErrOf result (OpenFault.Fault (Fault.Changed file at)) → ⊥ }
     ensures only { OnlyReads (H.state host.old) (H.state host.new) }
@@ -148,7 +146,6 @@ fn read_blocks<H: Host>(
     end: u64,
     fences: &Fences,
 ) -> Result<BlockBytes, OpenFault>
-    requires end { Told (H.state host.old) (end ≤ length (bytes_of (H.state host.old) file)) }
     ensures blocks { Told (H.state host.old) (IfOk result (λ blocks. blocks ≡ blocks_by (bytes_of (H.state host.old) file) fences.now)) }
     ensures each { Told (H.state host.old) (OnOk result (AllByRecursion (IsBlockIn (bytes_of (H.state host.old) file) file end) fences.now)) }
     ensures malformed { Told (H.state host.old) (IsErrOf result OpenFault.Malformed → ¬ (AllByRecursion (IsBlockIn (bytes_of (H.state host.old) file) file end) fences.now)) }
@@ -175,7 +172,6 @@ fn read_block<H: Host>(
     buffer: &mut [u8],
     blocks: &mut BlockBytes,
 ) -> Result<(), OpenFault>
-    requires end { Told (H.state host.old) (end ≤ length (bytes_of (H.state host.old) file)) }
     requires room { 4096 ≤ length buffer.old }
     ensures bytes { Told (H.state host.old) (OnOk result (blocks.new ≡ blocks.old ++ block_at (bytes_of (H.state host.old) file) fence.now)) }
     ensures block { Told (H.state host.old) (OnOk result (IsBlockIn (bytes_of (H.state host.old) file) file end fence.now)) }

@@ -46,7 +46,7 @@ struct Blocks<'a> {
 
 impl<'a> RunRecords<'a> {
     /// A cursor over the blocks whose fences meet the range from `low` up to, not with, `high`; `None` is an open end. So it may
-    /// begin below `low` and go on behind `high`, each by less than a block. The first block is found by halves.
+    /// begin below `low` and go on behind `high`, each by less than a block.
     pub fn new(
         alloc: Global,
         run: &'a Run,

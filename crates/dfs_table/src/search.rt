@@ -11,7 +11,7 @@ use dfs_record::{Key, KeyRef};
 
 impl Tables {
     /// The number of the one table that spans the key: its first key is at most the key and its last one at least. `None` exactly
-    /// where none does. The table is found by halves.
+    /// where none does. It is a binary search over the tables.
     pub fn find(&self, key: KeyRef<'_>) -> Option<usize>
         ensures found { IfSome result (λ index. SpansAt self.now (key_of key.entry) index) }
         ensures only { (index : ℕ) → SpansAt self.now (key_of key.entry) index → result ≡ Some index }

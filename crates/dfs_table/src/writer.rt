@@ -1,6 +1,6 @@
 //! Runs that are written to a log.
 
-ghost use Rattle.std.specs.Prelude.{◌≡◌, ◌≤◌, ◌<◌, ◌+◌, ◌*◌, ◌++◌, ◌∷◌, ◌⊎◌, ◌↔◌, ℕ, List, [], length, take, Some, IsFalse, IsTrue, IsErrOf, IfOk, OnOk, OnErr};
+ghost use Rattle.std.specs.Prelude.{◌≡◌, ◌≤◌, ◌<◌, ◌+◌, ◌*◌, ◌++◌, ◌∷◌, ◌⊎◌, ◌↔◌, ℕ, List, [], length, take, Some, true, IsFalse, IsTrue, IsErrOf, IfOk, OnOk, OnErr};
 ghost use Rattle.std.specs.List.{AllByRecursion, sum_by};
 ghost use Rattle.dfs_host.specs.Fault.{HasFaultCause};
 ghost use Rattle.dfs_host.specs.Host.{Told, bytes_of, Only};
@@ -76,7 +76,8 @@ impl TableWriter {
     }
 
     /// Adds a record, whose key is above that of the last one. The log is that of the earlier calls. A block is written when the
-    /// next record would carry it past 4,096 bytes, and an index when its table has 4,096 blocks. After a fault the writer is spent.
+    /// next record would carry it past 4,096 bytes, and an index when its table has 4,096 blocks. After a fault the writer and the
+    /// log are spent.
     pub fn push<H: Host>(
         &mut self,
         host: &mut H,
@@ -102,7 +103,8 @@ impl TableWriter {
         // It goes into the block under way exactly where it fits there, and then host and log are as before. Where it does not, what
         // is not written yet becomes one block, and it begins the next one. A table is closed with 4,096 blocks.
         ensures fits { Fits self.old (record_of rec.entry) → OnOk result (self.new ≡ record self.old { records = self.old.records ++ record_of rec.entry ∷ [] }) }
-        ensures untouched { Fits self.old (record_of rec.entry) → (H.state host.new ≡ H.state host.old) × (log.new ≡ log.old) }
+        ensures untouched { Fits self.old (record_of rec.entry) → (H.state host.new ≡ H.state host.old) × OnOk result (log.new ≡ log.old) }
+        ensures untouched_but_spent { Fits self.old (record_of rec.entry) → OnErr result (log.new ≡ record log.old { spent = true }) }
         ensures begins { ¬ (Fits self.old (record_of rec.entry)) → OnOk result ((self.new.records ≡ record_of rec.entry ∷ []) × AddsBlock self.old self.new) }
         ensures full_tables { OnOk result (AllByRecursion IsFull self.new.closed) }
         ensures count { OnOk result (count_in self.new ≡ count_in self.old + 1) }
@@ -116,7 +118,6 @@ impl TableWriter {
         ensures refused { 0 < log.new.refused → IsErrOf result Fault.LogFull }
         ensures over { 0 < log.new.refused → log.new.limit < log.new.len + log.new.refused }
         ensures one_too_many { IsOneTooMany self.old (record_of rec.entry) → OnOk result ⊥ }
-        ensures failed { IsErrOf result Fault.Disk → IsTrue log.new.spent }
         ensures never_changed { (file at : ℕ) → IsErrOf result (Fault.Changed file at) → ⊥ }
 
         // The log grows by blocks and indexes alone.
@@ -132,15 +133,23 @@ impl TableWriter {
         ensures same { (log.new.file ≡ log.old.file) × (log.new.limit ≡ log.old.limit) }
         ensures live { OnOk result (IsFalse self.new.spent × IsFalse log.new.spent) }
         ensures spent { OnErr result (IsTrue self.new.spent) }
+        ensures log_spent { OnErr result (IsTrue log.new.spent) }
     {
         self.spent = true;
-        self.place(host, log, rec)?;
-        self.spent = false;
-        Ok(())
+        match self.place(host, log, rec) {
+            Ok(()) => {
+                self.spent = false;
+                Ok(())
+            }
+            Err(fault) => {
+                log.spend();
+                Err(fault)
+            }
+        }
     }
 
     /// Writes the block under way and the index of its table, and answers the run of all records that the writer was given. Without
-    /// one it has no table, and nothing is written.
+    /// one it has no table, and nothing is written. After a fault the log is spent.
     pub fn finish<H: Host>(self, host: &mut H, log: &mut LogWriter) -> Result<Run, Fault>
         requires live { IsFalse self.spent }
         requires log_live { IsFalse log.old.spent }
@@ -165,7 +174,6 @@ impl TableWriter {
         // `LogFull` exactly where the log refused a piece.
         ensures full { IsErrOf result Fault.LogFull ↔ (0 < log.new.refused) }
         ensures over { 0 < log.new.refused → log.new.limit < log.new.len + log.new.refused }
-        ensures failed { IsErrOf result Fault.Disk → IsTrue log.new.spent }
         ensures never_changed { (file at : ℕ) → IsErrOf result (Fault.Changed file at) → ⊥ }
 
         // The log grows by the run's blocks and indexes alone.
@@ -176,13 +184,19 @@ impl TableWriter {
         ensures reads { (H.state host.new).reads ≡ (H.state host.old).reads }
         ensures same { (log.new.file ≡ log.old.file) × (log.new.limit ≡ log.old.limit) }
         ensures live { OnOk result (IsFalse log.new.spent) }
+        ensures log_spent { OnErr result (IsTrue log.new.spent) }
     {
         let mut writer = self;
         writer.spent = true;
-        writer.close(host, log)?;
-        Ok(Run {
-            tables: writer.closed,
-        })
+        match writer.close(host, log) {
+            Ok(()) => Ok(Run {
+                tables: writer.closed,
+            }),
+            Err(fault) => {
+                log.spend();
+                Err(fault)
+            }
+        }
     }
 
     // Writes what is not written yet.

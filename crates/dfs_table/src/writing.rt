@@ -1,6 +1,6 @@
 //! Runs that are written from a source of records.
 
-ghost use Rattle.std.specs.Prelude.{◌≡◌, ◌≤◌, ◌<◌, ◌+◌, ◌*◌, ◌⊎◌, ◌↔◌, ℕ, Bool, length, take, IsFalse, IsErrOf, IfOk, OnOk};
+ghost use Rattle.std.specs.Prelude.{◌≡◌, ◌≤◌, ◌<◌, ◌+◌, ◌*◌, ◌⊎◌, ◌↔◌, ℕ, Bool, length, take, IsFalse, IsTrue, IsErrOf, IfOk, OnOk, OnErr};
 ghost use Rattle.std.specs.List.{AllByRecursion, sum_by};
 ghost use Rattle.dfs_host.specs.Fault.{HasFaultCause};
 ghost use Rattle.dfs_host.specs.Host.{Told, bytes_of, Only};
@@ -22,7 +22,8 @@ use std::alloc::Global;
 /// The most tables of a run.
 const MOST_TABLES: u32 = 131_072;
 
-/// Writes the records of the source, all of them loaded, to the log as a run, a block at a time. After a fault the log keeps what it had.
+/// Writes the records of the source, all of them loaded, to the log as a run, a block at a time. After a fault the log
+/// keeps what it had, and is spent.
 pub fn write_run<H: Host, R: Records + Drop>(
     alloc: Global,
     host: &mut H,
@@ -61,12 +62,13 @@ pub fn write_run<H: Host, R: Records + Drop>(
     ensures cause { HasFaultCause (H.state host.old) (H.state host.new) result }
     ensures reads { (H.state host.new).reads ≡ (H.state host.old).reads }
     ensures same { (log.new.file ≡ log.old.file) × (log.new.limit ≡ log.old.limit) }
+    ensures log_spent { OnErr result (IsTrue log.new.spent) }
 {
     write_tables(alloc, host, log, records, MOST_TABLES)
 }
 
 /// Writes the records of the source, all of them loaded, to the log as a run of at most so many tables, a block at a time. After a
-/// fault the log keeps what it had.
+/// fault the log keeps what it had, and is spent.
 pub fn write_tables<H: Host, R: Records + Drop>(
     alloc: Global,
     host: &mut H,
@@ -106,10 +108,12 @@ pub fn write_tables<H: Host, R: Records + Drop>(
     ensures cause { HasFaultCause (H.state host.old) (H.state host.new) result }
     ensures reads { (H.state host.new).reads ≡ (H.state host.old).reads }
     ensures same { (log.new.file ≡ log.old.file) × (log.new.limit ≡ log.old.limit) }
+    ensures log_spent { OnErr result (IsTrue log.new.spent) }
 {
     // Read here, since the length is within the limit of every log.
     let _ = log.len();
     let Ok(mut writer) = TableWriter::new(alloc, tables_left) else {
+        log.spend();
         return Err(Fault::NoMemory);
     };
     while let Head::Item(rec) = records.head() {

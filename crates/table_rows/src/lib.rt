@@ -1,4 +1,6 @@
-//! A caller of tables in logs, and worked tables over a host in memory.
+//! A caller of tables in logs, and worked tables over a host in memory. Nothing stands on it.
+//!
+//! `write_and_find` shows that a run that was written answers a key with the record that was pushed, on every host that tells.
 #![tactic(auto)]
 
 ghost use Rattle.std.specs.Prelude.{◌≡◌, ◌∷◌, [], IsFalse, IfOk};

@@ -224,13 +224,10 @@ fn fence(rt: &impl Abort, table: &Table, index: usize) -> (u64, u32, u16) {
 }
 
 fn open(
-    rt: &impl Abort,
     alloc: Global,
     host: &mut MemHost,
     (at, len, end): (u64, u32, u64),
 ) -> Result<Table, OpenFault> {
-    let inside = end <= host.file(1).len() as u64;
-    assert!(rt; inside);
     Table::open(alloc, host, 1, at, len, end)
 }
 
@@ -301,7 +298,7 @@ fn damage_at_each_field(rt: HostRuntime) -> Result<(), Fail> {
             *at = byte;
         }
         let mut host = host_with(alloc, &file)?;
-        let fault = open(&rt, alloc, &mut host, (43, 38, 81)).err();
+        let fault = open(alloc, &mut host, (43, 38, 81)).err();
         assert_eq!(rt; fault, Some(OpenFault::Malformed), "{what}");
     }
     let mut host = host_with(alloc, &WORKED)?;
@@ -313,14 +310,38 @@ fn damage_at_each_field(rt: HostRuntime) -> Result<(), Fail> {
         (11, 38, 81),
         (44, 38, 81),
         (43, 39, 81),
+        (43, 39, 82),
         (81, 0, 81),
+        (82, 0, 82),
     ] {
-        let fault = open(&rt, alloc, &mut host, bounds).err();
+        let fault = open(alloc, &mut host, bounds).err();
         assert_eq!(rt; fault, Some(OpenFault::Malformed), "{bounds:?}");
     }
-    let table = open(&rt, alloc, &mut host, (43, 38, 81))?;
+    let table = open(alloc, &mut host, (43, 38, 81))?;
     assert_eq!(rt; place(&table), (1, 43, 38, 1));
     assert_eq!(rt; fence(&rt, &table, 0), (12, 31, 1));
+    Ok(())
+}
+
+#[test]
+fn bytes_behind_the_end_of_the_file(rt: HostRuntime) -> Result<(), Fail> {
+    let alloc = rt.alloc();
+    // The index at place 12, and behind it the block, whose last byte is 1.
+    let mut file = WORKED[..12].to_vec(alloc)?;
+    file.extend_from_slice(&WORKED[43..])?;
+    file.extend_from_slice(&WORKED[12..43])?;
+    if let Some(place) = file.get_mut(23) {
+        *place = 50;
+    }
+    for len in [80, 50, 49, 12] {
+        let mut host = host_with(alloc, file.get(..len).ok_or("too long")?)?;
+        let fault = open(alloc, &mut host, (12, 38, 81)).err();
+        assert_eq!(rt; fault, Some(OpenFault::Malformed), "{len}");
+    }
+    let mut host = host_with(alloc, &file)?;
+    let table = open(alloc, &mut host, (12, 38, 90))?;
+    assert_eq!(rt; place(&table), (1, 12, 38, 1));
+    assert_eq!(rt; fence(&rt, &table, 0), (50, 31, 1));
     Ok(())
 }
 

@@ -3,7 +3,7 @@ use Rattle.std.specs.Prelude.{option_copied}
 use Rattle.std.specs.List.{AllByRecursion}
 use Rattle.dfs_cursor.specs.Ranges.{is_within, part}
 use Rattle.dfs_table.specs.Writer.{KeyPasses}
-use Rattle.dfs_compact.specs.Cursors.{run_rest}
+use Rattle.dfs_table.specs.Cursors.{run_rest}
 use Rattle.dfs_compact.proofs.Ranges.{all_within, part_few, part_of_source}
 use Rattle.dfs_compact.proofs.sources.part_of_run.Goals as goal
 

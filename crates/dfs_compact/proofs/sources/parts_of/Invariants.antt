@@ -5,7 +5,7 @@ use Rattle.dfs_record.specs.Delta.{Delta, records_of}
 use Rattle.dfs_record.specs.Records.{Files}
 use Rattle.dfs_cursor.specs.Ranges.{is_within, part, unread_of}
 use Rattle.dfs_table.specs.Writer.{KeyPasses}
-use Rattle.dfs_compact.specs.Cursors.{run_rest}
+use Rattle.dfs_table.specs.Cursors.{run_rest}
 use Rattle.dfs_compact.specs.Parts.{AreSources, count_all}
 use Rattle.dfs_compact.proofs.sources.parts_of.Given as goal
 

@@ -12,4 +12,5 @@ returns-clause-block g c = λ tells.
     let lies = c.lies.ensures.0 c.if-not-lies.false in
     let whole : length (take f.len c.args.buffer.now) ≡ f.len = omega (arith, lies.short, c.requires.room, length-take f.len c.args.buffer.now) in
     let read : c.read_part.new.out ≡ block_at bytes f = c.in_ok-read_part.ensures.part tells ∙ ap (part bytes f.at) whole in
-    block_of bytes c.args.file c.args.end f (subst (Agrees c.args.file f) read (c.agrees.ensures.0 c.if-not-agrees.false)) lies.behind lies.ends (c.requires.end tells)
+    block_of bytes c.args.file c.args.end f (subst (Agrees c.args.file f) read (c.agrees.ensures.0 c.if-not-agrees.false)) lies.behind lies.ends
+    (subst (λ n. length (part bytes f.at n) ≡ n) whole (c.in_ok-read_part.ensures.whole tells))

@@ -1,5 +1,5 @@
 use Rattle.std.proofs.Common.{length}
-use Rattle.dfs_compact.specs.Cursors.{run_rest}
+use Rattle.dfs_table.specs.Cursors.{run_rest}
 use Rattle.merge_rows.proofs.compactions.letters.Given as goal
 
 abbrev pub decreases-loop-rec : goal.decreases-loop-rec

@@ -21,7 +21,7 @@ returns-in-Some-clause-value g c tells =
     let bytes = bytes_of (g.H.Host.state c.args.host.now) in
     let file = bytes c.args.self.now.listed.job in
     let at : slice_get ts i ≡ Some t = subst (λ (l : List Table). slice_get l i ≡ Some t) (ap (λ (r : Run). r.tables) c.deref.ensures) c.get.ensures.table in
-    let lies : t.file ≡ c.args.self.now.listed.job = each_at (λ (u : Table). u.file ≡ c.args.self.now.listed.job) ts i t c.requires.file at in
+    let lies : t.file ≡ c.args.self.now.listed.job = each_at (λ (u : Table). u.file ≡ c.args.self.now.listed.job) ts i t (c.requires.file tells) at in
     let there : last_value key (run_records file ts) ≡ last_value key (table_records file t) =
     run_there file ts key i t (c.requires.stored tells) at
     (λ j spans. same_Some j i (sym (c.in-Some.ensures.only j (subst (λ (l : List Table). SpansAt l key j) (sym (ap (λ (r : Run). r.tables) c.deref.ensures)) spans)))) in

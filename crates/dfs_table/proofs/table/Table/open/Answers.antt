@@ -13,7 +13,7 @@ use Rattle.dfs_table.proofs.table.Table.open.Goals as goal
 pub returns-then-not-lies-clause-malformed : goal.returns-then-not-lies-clause-malformed
 returns-then-not-lies-clause-malformed g c = λ tells is fs at.
     let bytes = bytes_of (g.H.Host.state c.args.host.now) c.args.file in
-    let yes = c.lies.ensures.1 (lies_of bytes c.args.file c.args.end c.args.at c.args.len (c.requires.end tells) fs at) in
+    let yes = c.lies.ensures.1 (lies_of bytes c.args.file c.args.end c.args.at c.args.len fs at) in
     absurd (cc (yes, c.if-not-lies.true))
 
 pub returns-in_err-blocks-clause-malformed : goal.returns-in_err-blocks-clause-malformed
@@ -24,7 +24,7 @@ returns-in_err-blocks-clause-malformed g c = λ tells is.
     let p = err_from_is_err_and c.from_residual-in_err-blocks.result c.from_residual-in_err-blocks.ensures.1 in
     let same : c.in_err-blocks.field-0.0 ≡ Malformed = cc (p.1, p.2, is) in
     let out = c.in_err-blocks.ensures.malformed (only.tells ∙ tells) (ap Err same) in
-    no_table bytes c.args.file c.args.end c.args.at c.args.len (c.requires.end tells) fs (c.in_ok-fences.ensures.index tells)
+    no_table bytes c.args.file c.args.end c.args.at c.args.len fs (c.in_ok-fences.ensures.index tells)
     (λ all. out (subst (λ (l : List ℕ). AllByRecursion (IsBlockIn l c.args.file c.args.end) fs) (sym (same_bytes only tells c.args.file)) all))
 
 pub returns-clause-table : goal.returns-clause-table
@@ -33,7 +33,7 @@ returns-clause-table g c = λ tells.
     let only = c.in_ok-fences.ensures.only in
     let all = subst (λ (l : List ℕ). AllByRecursion (IsBlockIn l c.args.file c.args.end) c.in_ok-fences.fences) (same_bytes only tells c.args.file) (c.in_ok-blocks.ensures.each (only.tells ∙ tells)) in
     subst (IsTableAt bytes c.args.file c.args.at c.args.len c.args.end) (sym c.in_ok-new.ensures.fences)
-    (table_by bytes c.args.file c.args.end c.args.at c.args.len (c.requires.end tells) c.in_ok-fences.fences (c.lies.ensures.0 c.if-not-lies.false) (c.in_ok-fences.ensures.index tells) all)
+    (table_by bytes c.args.file c.args.end c.args.at c.args.len c.in_ok-fences.fences (c.lies.ensures.0 c.if-not-lies.false).ends (c.in_ok-fences.ensures.index tells) all)
 
 pub returns-clause-stored : goal.returns-clause-stored
 returns-clause-stored g c = λ tells.
@@ -42,4 +42,4 @@ returns-clause-stored g c = λ tells.
     let new = c.in_ok-new.ensures in
     let same : c.in_ok-new.field-0.blocks ≡ blocks_by bytes c.in_ok-new.field-0.fences =
     new.blocks ∙ c.in_ok-blocks.ensures.blocks (only.tells ∙ tells) ∙ ap (λ (l : List ℕ). blocks_by l c.in_ok-fences.fences) (same_bytes only tells c.args.file) ∙ ap (blocks_by bytes) (sym new.fences) in
-    stored_by bytes c.args.file c.args.end c.args.at c.args.len (c.requires.end tells) c.in_ok-new.field-0 (returns-clause-table g c tells) new.index.1 new.index.2 same
+    stored_by bytes c.args.file c.args.end c.args.at c.args.len c.in_ok-new.field-0 (returns-clause-table g c tells) new.index.1 new.index.2 same

@@ -8,17 +8,17 @@ use Rattle.dfs_table.specs.Writer.{AddsTable, WriterState, pushed, table_len, wr
 use Rattle.dfs_table.proofs.Rising.{is_stored}
 use Rattle.dfs_table.proofs.writer.TableWriter.finish.Goals as goal
 
-pub returns-clause-stored : goal.returns-clause-stored
-returns-clause-stored g c tells =
+pub returns-in-Ok-clause-stored : goal.returns-in-Ok-clause-stored
+returns-in-Ok-clause-stored g c tells =
     let old = bytes_of (g.H.Host.state c.args.host.now) c.args.log.now.file in
     let new = bytes_of (g.H.Host.state c.close.new.host) c.args.log.now.file in
-    let ensured = c.in_ok-close.ensures in
+    let ensured = c.in-Ok.ensures in
     subst (λ (w : WriterState). IsStored new (record { tables = w.closed }) (delta (pushed old c.args.self))) (sym c.writer-2.view_is)
     (is_stored new c.close.new.self ensured.written.0 ensured.written.1 (ensured.stands tells) ensured.rise (pushed old c.args.self) (ensured.pushed tells ∙ ap (λ (w : WriterState). pushed old w) c.writer.view_is))
 
-pub returns-clause-wrote : goal.returns-clause-wrote
-returns-clause-wrote g c =
-    let ensured = c.in_ok-close.ensures in
+pub returns-in-Ok-clause-wrote : goal.returns-in-Ok-clause-wrote
+returns-in-Ok-clause-wrote g c =
+    let ensured = c.in-Ok.ensures in
     omega (
       arith,
       ensured.wrote,
@@ -27,9 +27,9 @@ returns-clause-wrote g c =
       ap (λ (w : WriterState). wrote w) c.writer.view_is,
     )
 
-pub returns-clause-last : goal.returns-clause-last
-returns-clause-last g c = λ some.
-    let added = c.in_ok-close.ensures.last (subst (λ (w : WriterState). 1 ≤ length w.records) (sym c.writer.view_is) some) in
+pub returns-in-Ok-clause-last : goal.returns-in-Ok-clause-last
+returns-in-Ok-clause-last g c = λ some.
+    let added = c.in-Ok.ensures.last (subst (λ (w : WriterState). 1 ≤ length w.records) (sym c.writer.view_is) some) in
     let here : AddsTable c.args.self c.close.new.self.closed =
     record {
       table = added.table;

@@ -80,7 +80,7 @@ pub struct Folder {
 impl Folder {
     ghost use Rattle.std.specs.Prelude.{◌≤◌, length, IfOk, IsTrue};
     ghost use Rattle.dfs_host.specs.Counts.{HasCause};
-    ghost use Rattle.dfs_folder.specs.Opened.{HasLatest};
+    ghost use Rattle.dfs_folder.specs.Opened.{IsLatest};
 
     pub fn new(alloc: Global, runtime: HostRuntime, folder: &str) -> Result<Folder, NoMemory> {
         let paths = Paths::new(alloc, folder)?;
@@ -109,7 +109,7 @@ impl Folder {
 
     // Whether the file was ever made; it is the one used last then. A folder that is missing is a fault.
     fn find(&mut self, number: u32, faults: &mut u64) -> Result<bool, Failed>
-        ensures found { IfOk result (λ found. IsTrue found → HasLatest self.new.files) }
+        ensures found { IfOk result (λ found. IsTrue found → IsLatest number self.new.files) }
         ensures cause { HasCause faults.old faults.new result }
     {
         if self.files.find(number) {
@@ -126,18 +126,19 @@ impl Folder {
         }
     }
 
-    // The file, which is made where it never was. The folder is synced then.
-    fn find_or_make(&mut self, number: u32, faults: &mut u64) -> Result<&File, Failed>
+    // Makes the file where it never was, and syncs the folder then. The file is the one used last.
+    fn find_or_make(&mut self, number: u32, faults: &mut u64) -> Result<(), Failed>
+        ensures found { IfOk result (λ _. IsLatest number self.new.files) }
         ensures cause { HasCause faults.old faults.new result }
     {
-        let found = self.find(number, faults)?;
-        if !found {
-            self.paths.turn_to(number);
-            let file = answered(make_file(&self.runtime, self.paths.path()), faults)?;
-            answered(self.folder(faults)?.sync_all(), faults)?;
-            self.files.keep(number, file);
+        if self.find(number, faults)? {
+            return Ok(());
         }
-        Ok(self.files.latest())
+        self.paths.turn_to(number);
+        let file = answered(make_file(&self.runtime, self.paths.path()), faults)?;
+        answered(self.folder(faults)?.sync_all(), faults)?;
+        self.files.keep(number, file);
+        Ok(())
     }
 
     pub fn len(&mut self, number: u32, faults: &mut u64) -> Result<u64, Failed>
@@ -175,15 +176,15 @@ impl Folder {
     ) -> Result<(), Failed>
         ensures cause { HasCause faults.old faults.new result }
     {
-        let file = self.find_or_make(number, faults)?;
-        answered(file.write_all_at(bytes, at), faults)
+        self.find_or_make(number, faults)?;
+        answered(self.files.latest().write_all_at(bytes, at), faults)
     }
 
     pub fn cut(&mut self, number: u32, len: u64, faults: &mut u64) -> Result<(), Failed>
         ensures cause { HasCause faults.old faults.new result }
     {
-        let file = self.find_or_make(number, faults)?;
-        answered(file.set_len(len), faults)
+        self.find_or_make(number, faults)?;
+        answered(self.files.latest().set_len(len), faults)
     }
 
     // A file that was never made has nothing to settle.

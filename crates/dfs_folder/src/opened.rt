@@ -1,5 +1,5 @@
 //! The files that are open, a bounded number of them.
-ghost use Rattle.std.specs.Prelude.{◌≡◌, ◌≤◌, vec_capacity, vec_len};
+ghost use Rattle.std.specs.Prelude.{◌≡◌, ◌<◌, ◌≤◌, [], ◌∷◌, ◌++◌, vec_capacity, vec_len};
 
 use dfs_host::NoMemory;
 use std::alloc::Global;
@@ -24,7 +24,7 @@ pub struct OpenFiles {
 
 impl OpenFiles {
     ghost use Rattle.std.specs.Prelude.{IsTrue};
-    ghost use Rattle.dfs_folder.specs.Opened.{HasLatest};
+    ghost use Rattle.dfs_folder.specs.Opened.{EndsWith, HasLatest, IsLatest};
 
     pub fn new(alloc: Global) -> Result<OpenFiles, NoMemory> {
         let files = Vec::with_capacity(alloc, MOST)?;
@@ -33,25 +33,31 @@ impl OpenFiles {
 
     // Whether the file is open; it is the one used last then.
     pub fn find(&mut self, number: u32) -> bool
-        ensures { IsTrue result → HasLatest self.new }
+        ensures { IsTrue result → IsLatest number self.new }
     {
-        match self.files.iter().rposition(|open| open.number == number) {
-            Some(place) => {
-                self.files[place..].rotate_left(1);
-                true
-            }
-            None => false,
-        }
+        let Some(place) = self.files.iter().position(|open| open.number == number) else {
+            return false;
+        };
+        let used = self.files.remove(place);
+        self.put_last(used);
+        true
     }
 
     // Takes an open file in. Where there is no room for it the one used longest ago is closed.
     pub fn keep(&mut self, number: u32, file: File)
-        ensures { HasLatest self.new }
+        ensures { IsLatest number self.new }
     {
         if self.files.len() == MOST {
             self.files.remove(0);
         }
-        let Ok(()) = self.files.push(OpenFile { number, file }) else {
+        self.put_last(OpenFile { number, file });
+    }
+
+    fn put_last(&mut self, used: OpenFile)
+        requires { vec_len self.old.files < 64 }
+        ensures { self.new.files.items ≡ self.old.files.items ++ used ∷ [] }
+    {
+        let Ok(()) = self.files.push(used) else {
             unreachable!();
         };
     }
@@ -59,6 +65,7 @@ impl OpenFiles {
     // The file used last.
     pub fn latest(&self) -> &File
         requires { HasLatest self.now }
+        ensures { EndsWith result.now self.now }
     {
         &self.files[self.files.len() - 1].file
     }

@@ -93,13 +93,14 @@ impl Folder {
         })
     }
 
-    // The folder itself, open.
+    // The folder itself, open. It is synced when it is opened, since a run that was killed may have left a file's entry unsettled.
     fn folder(&mut self, faults: &mut u64) -> Result<&File, Failed>
         ensures cause { HasCause faults.old faults.new result }
     {
         if self.folder.is_none() {
-            let folder = open_folder(&self.runtime, self.paths.folder());
-            self.folder = Some(answered(folder, faults)?);
+            let folder = answered(open_folder(&self.runtime, self.paths.folder()), faults)?;
+            answered(folder.sync_all(), faults)?;
+            self.folder = Some(folder);
         }
         let Some(folder) = &self.folder else {
             unreachable!();

@@ -3,12 +3,13 @@ use dfs_script::*;
 use std::process::Abort;
 use std::test::*;
 
-const SAID: [&[u8]; 18] = [
+const SAID: [&[u8]; 19] = [
     b"snapshots",
     b"  snapshots  ",
     b"snapshots\r",
     b"begin w",
     b"begin w-_9 s.1 s.1",
+    b"begin aaaaaaaaaaaaaaaaaaaaaaaaaaaaaaaa 0123456789abcdef0123456789abcdef0123456789abcdef0123456789abcdef",
     b"a mkdir / 0 00000000000000000007",
     b"a create /%2e%2E./%c3%A9 7777 18446744073709551615 0 %00",
     b"a unlink /x",
@@ -47,7 +48,7 @@ const SETTINGS: [(&[u8], Setting, u64); 9] = [
 
 const SILENT: [&[u8]; 6] = [b"", b"\r", b"   ", b"#", b"# set\tbuffer \xff", b"#\r\r"];
 
-const FAULTS: [&[u8]; 72] = [
+const FAULTS: [&[u8]; 73] = [
     b"\r\r",
     b"snapshots\r\r",
     b"snapshots now",
@@ -83,6 +84,7 @@ const FAULTS: [&[u8]; 72] = [
     b"begin a.b",
     b"begin a s/t",
     b"begin aaaaaaaaaaaaaaaaaaaaaaaaaaaaaaaaa",
+    b"begin a 0123456789abcdef0123456789abcdef0123456789abcdef0123456789abcdef0",
     b"a",
     b"a drop now",
     b"a flush now",
@@ -227,6 +229,22 @@ fn the_names_of_snapshots(rt: HostRuntime) -> Result<(), Fail> {
         return Err("a publish")?;
     };
     assert_eq!(rt; name.bytes(), b"s".as_slice());
+    Ok(())
+}
+
+#[test]
+fn the_most_names(rt: HostRuntime) -> Result<(), Fail> {
+    let mut line = vec![in rt.alloc(); b"begin a"]?;
+    for _ in 0..64 {
+        line.extend_from_slice(b" s")?;
+    }
+    let begun = read_line(rt.alloc(), &line);
+    let Ok(Line::Begin { names, .. }) = &begun else {
+        return Err("a begin")?;
+    };
+    assert_eq!(rt; names.len(), 64);
+    line.extend_from_slice(b" s")?;
+    assert!(rt; matches!(read_line(rt.alloc(), &line), Err(LineFault::Syntax)));
     Ok(())
 }
 

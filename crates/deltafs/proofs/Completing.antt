@@ -20,11 +20,11 @@ use Rattle.deltafs.specs.declared.status.Status.TheVariants.{Done, Usage, NotReg
 use Rattle.deltafs.specs.declared.words.Command.{Command}
 use Rattle.deltafs.specs.declared.words.Command.TheVariants.{Run, Gen}
 use Rattle.deltafs.specs.Causes.{DiskFaultsOf, SayFaultsOf, SourceFaultsOf}
-use Rattle.deltafs.specs.Commands.{Says}
+use Rattle.deltafs.specs.Commands.{IsUnopened, Says}
 use Rattle.deltafs.specs.Complete.{IsCompleted, JobsHaveRoom}
 use Rattle.deltafs.specs.Isolated.{AreIsolated}
 use Rattle.deltafs.specs.Refusals.{status_of}
-use Rattle.deltafs.specs.Says.{StopsInto, StopsShort, StopsTaken, Untaken}
+use Rattle.deltafs.specs.Says.{SaysReplies, StopsInto, StopsShort, StopsTaken, Untaken}
 
 -- no run of jobs that have room stops at a full log
 never_full : (old : Registry) (heard : List (List ℕ) → List ℕ) (script said : List ℕ) (files : Option Registry) → HaveRoom (opened old) (lines_of script) → StopsShort (opened old) heard script said files → ⊥
@@ -42,22 +42,40 @@ pub no_source_fault : (status : Status) (a b : ℕ) → SourceFaultsOf status a 
 no_source_fault status a b faults none is = none ((subst (λ s. SourceFaultsOf s a b) is faults).1)
 
 module _ (old : Registry) (limit : ℕ) (script rest said : List ℕ) (files : Option Registry) where
-  pub completes_run : (status : Status) → HaveRoom (opened old) (lines_of script) → length script < limit → Says (Some Run) status old script rest said files → Untaken status limit script rest
+  completes_idle : (status : Status) → IsUnopened status old script rest said files → (status ≡ DiskFault → ⊥) → IsCompleted status
+  completes_idle Done unopened disk = tt
+  completes_idle Usage unopened disk = unopened
+  completes_idle NotRegistry unopened disk = unopened
+  completes_idle (RegistryDamaged place) unopened disk = unopened
+  completes_idle DiskFault unopened disk = disk refl
+  completes_idle OutputFault unopened disk = unopened
+  completes_idle SourceFault unopened disk = unopened
+  completes_idle NoMemory unopened disk = tt
+  completes_idle LogFull unopened disk = unopened
+  completes_idle ScriptTooLong unopened disk = unopened
+  completes_idle Changed unopened disk = unopened
+
+  completes_lines : (status : Status) → HaveRoom (opened old) (lines_of script) → length script < limit → SaysReplies status old script rest said files → Untaken status limit script rest
       → (status ≡ DiskFault → ⊥) → (status ≡ OutputFault → ⊥) → (status ≡ SourceFault → ⊥) → (status ≡ Changed → ⊥) → IsCompleted status
-  completes_run Done room within says untaken disk output input changed = tt
-  completes_run Usage room within says untaken disk output input changed = says
-  completes_run NotRegistry room within says untaken disk output input changed = says
-  completes_run (RegistryDamaged place) room within says untaken disk output input changed = says
-  completes_run DiskFault room within says untaken disk output input changed = disk refl
-  completes_run OutputFault room within says untaken disk output input changed = output refl
-  completes_run SourceFault room within says untaken disk output input changed = input refl
-  completes_run NoMemory room within says untaken disk output input changed = tt
-  completes_run LogFull room within says untaken disk output input changed = never_full old _ script said files room says
-  completes_run ScriptTooLong room within says untaken disk output input changed =
+  completes_lines Done room within says untaken disk output input changed = tt
+  completes_lines Usage room within says untaken disk output input changed = says
+  completes_lines NotRegistry room within says untaken disk output input changed = says
+  completes_lines (RegistryDamaged place) room within says untaken disk output input changed = says
+  completes_lines DiskFault room within says untaken disk output input changed = disk refl
+  completes_lines OutputFault room within says untaken disk output input changed = output refl
+  completes_lines SourceFault room within says untaken disk output input changed = input refl
+  completes_lines NoMemory room within says untaken disk output input changed = tt
+  completes_lines LogFull room within says untaken disk output input changed = never_full old _ script said files room says
+  completes_lines ScriptTooLong room within says untaken disk output input changed =
       let takes = untaken.0 in
       let limit_taken : length takes.taken ≡ limit = untaken.1 in
       absurd (omega (arith, within, limit_taken, ap length takes.whole, length-append takes.taken rest))
-  completes_run Changed room within says untaken disk output input changed = changed refl
+  completes_lines Changed room within says untaken disk output input changed = changed refl
+
+  pub completes_run : (status : Status) → HaveRoom (opened old) (lines_of script) → length script < limit → Says (Some Run) status old script rest said files → Untaken status limit script rest
+      → (status ≡ DiskFault → ⊥) → (status ≡ OutputFault → ⊥) → (status ≡ SourceFault → ⊥) → (status ≡ Changed → ⊥) → IsCompleted status
+  completes_run status room within (inl unopened) untaken disk output input changed = completes_idle status unopened disk
+  completes_run status room within (inr says) untaken disk output input changed = completes_lines status room within says untaken disk output input changed
 
   pub completes_gen : (creates : ℕ) (status : Status) → HaveRoom (opened old) (lines_of (generated creates)) → Says (Some (Gen creates)) status old script rest said files
       → (status ≡ DiskFault → ⊥) → (status ≡ OutputFault → ⊥) → (status ≡ Changed → ⊥) → IsCompleted status
@@ -76,8 +94,8 @@ module _ (old : Registry) (limit : ℕ) (script rest said : List ℕ) (files : O
   -- a registry that stands is opened, but for want of memory
   pub completes_unopened : (command : Option Command) (fault : RegFault) → JobsHaveRoom command old script → Says command (status_of fault) old script rest said files → (status_of fault ≡ DiskFault → ⊥) → IsCompleted (status_of fault)
   completes_unopened None fault room says disk = absurd room
-  completes_unopened (Some Run) reg.NotRegistry room says disk = says
-  completes_unopened (Some Run) (reg.Damaged place) room says disk = says
+  completes_unopened (Some Run) reg.NotRegistry room says disk = ⊎_elim (λ no. absurd no) (λ no. absurd no) says
+  completes_unopened (Some Run) (reg.Damaged place) room says disk = ⊎_elim (λ no. absurd no) (λ no. absurd no) says
   completes_unopened (Some Run) reg.NoMemory room says disk = tt
   completes_unopened (Some Run) reg.Disk room says disk = disk refl
   completes_unopened (Some (Gen creates)) reg.NotRegistry room says disk = says
@@ -137,18 +155,37 @@ begins_taken old script rest said files stops =
     let cut = lines_continue stops.takes.taken rest in
     begins_before old script said (ended_lines stops.takes.taken) cut.after (ap lines_of stops.takes.whole ∙ cut.cut) stops.said_taken
 
+begins_lines : (old : Registry) (script rest said : List ℕ) (files : Option Registry) (status : Status) → SaysReplies status old script rest said files → Begins old script said
+begins_lines old script rest said files Done says = ([], sym says.said_all ∙ sym (append-nil said))
+begins_lines old script rest said files Usage says = absurd says
+begins_lines old script rest said files NotRegistry says = absurd says
+begins_lines old script rest said files (RegistryDamaged place) says = absurd says
+begins_lines old script rest said files DiskFault says = begins_before old script said says.before (says.line ∷ says.after) says.cut says.said_before
+begins_lines old script rest said files OutputFault says = begins_into old script said files says
+begins_lines old script rest said files SourceFault says = begins_taken old script rest said files says
+begins_lines old script rest said files NoMemory says = begins_before old script said says.before (says.line ∷ says.after) says.cut says.said_before
+begins_lines old script rest said files LogFull says = begins_before old script said says.before (says.line ∷ says.after) says.cut says.said_before
+begins_lines old script rest said files ScriptTooLong says = begins_taken old script rest said files says
+begins_lines old script rest said files Changed says = begins_before old script said says.before (says.line ∷ says.after) says.cut says.said_before
+
+begins_silent : (old : Registry) (script said : List ℕ) → said ≡ [] → Begins old script said
+begins_silent old script said none = (output old script, ap (λ (l : List ℕ). l ++ output old script) (sym none))
+
+begins_idle : (old : Registry) (script rest said : List ℕ) (files : Option Registry) (status : Status) → IsUnopened status old script rest said files → Begins old script said
+begins_idle old script rest said files Done unopened = absurd unopened
+begins_idle old script rest said files Usage unopened = absurd unopened
+begins_idle old script rest said files NotRegistry unopened = absurd unopened
+begins_idle old script rest said files (RegistryDamaged place) unopened = absurd unopened
+begins_idle old script rest said files DiskFault unopened = begins_silent old script said unopened.0
+begins_idle old script rest said files OutputFault unopened = absurd unopened
+begins_idle old script rest said files SourceFault unopened = absurd unopened
+begins_idle old script rest said files NoMemory unopened = begins_silent old script said unopened.none_said
+begins_idle old script rest said files LogFull unopened = absurd unopened
+begins_idle old script rest said files ScriptTooLong unopened = absurd unopened
+begins_idle old script rest said files Changed unopened = absurd unopened
+
 begins_run : (old : Registry) (script rest said : List ℕ) (files : Option Registry) (status : Status) → Says (Some Run) status old script rest said files → Begins old script said
-begins_run old script rest said files Done says = ([], sym says.said_all ∙ sym (append-nil said))
-begins_run old script rest said files Usage says = absurd says
-begins_run old script rest said files NotRegistry says = absurd says
-begins_run old script rest said files (RegistryDamaged place) says = absurd says
-begins_run old script rest said files DiskFault says = begins_before old script said says.before says.after says.cut says.said_before
-begins_run old script rest said files OutputFault says = begins_into old script said files says
-begins_run old script rest said files SourceFault says = begins_taken old script rest said files says
-begins_run old script rest said files NoMemory says = begins_before old script said says.before says.after says.cut says.said_before
-begins_run old script rest said files LogFull says = begins_before old script said says.before (says.line ∷ says.after) says.cut says.said_before
-begins_run old script rest said files ScriptTooLong says = begins_taken old script rest said files says
-begins_run old script rest said files Changed says = begins_before old script said says.before says.after says.cut says.said_before
+begins_run old script rest said files status says = ⊎_elim (begins_idle old script rest said files status) (begins_lines old script rest said files status) says
 
 -- of what begins a text, so much of the text's front is there as is long enough
 front_said : (front more said unsaid : List ℕ) → front ++ more ≡ said ++ unsaid → length front ≤ length said → said ≡ front ++ drop (length front) said

@@ -122,4 +122,4 @@ says_on {old} {mid} {new} first second = record {
 pub says_reply : (result : Result (Unit {0}) Stop) (reply : List ℕ) (old mid new : HostState) → said_of mid ≡ said_of old → SaysText result reply (said_of mid) (said_of new) → SaysMore old new
 says_reply (Ok u) reply old mid new silent is = record { more = reply; said = is ∙ ap (λ (l : List ℕ). l ++ reply) silent }
 says_reply (Err (stop.Fault f)) reply old mid new silent is = record { more = []; said = is ∙ silent ∙ sym (append-nil (said_of old)) }
-says_reply (Err stop.Output) reply old mid new silent is = record { more = take is.0 reply; said = is.1 ∙ ap (λ (l : List ℕ). l ++ take is.0 reply) silent }
+says_reply (Err stop.Output) reply old mid new silent is = record { more = take is.1.0 reply; said = is.1.1 ∙ ap (λ (l : List ℕ). l ++ take is.1.0 reply) silent }

@@ -33,13 +33,13 @@ gen_run creates is = subst IsGiven (sym is) tt
 -- want of memory, before the first line
 pub says_nothing : (command : Option Command) (old : Registry) (script said : List ℕ) (files : Option Registry) → said ≡ [] → files ≡ Some old → Says command NoMemory old script script said files
 says_nothing None old script said files silent stands = record { none_said = silent; none_taken = refl; stands = stands }
-says_nothing (Some Run) old script said files silent stands = record { before = []; after = lines_of script; cut = refl; said_before = silent; stands = stands }
+says_nothing (Some Run) old script said files silent stands = inl (record { none_said = silent; none_taken = refl; stands = stands })
 says_nothing (Some (Gen creates)) old script said files silent stands = record { before = []; after = lines_of (generated creates); cut = refl; said_before = silent; stands = stands }
 
 -- a device that failed
 says_failed : (command : Option Command) (old : Registry) (script said : List ℕ) (files : Option Registry) → said ≡ [] → files ≡ Some old → Says command DiskFault old script script said files
 says_failed None old script said files silent stands = record { none_said = silent; none_taken = refl; stands = stands }
-says_failed (Some Run) old script said files silent stands = record { before = []; after = lines_of script; cut = refl; said_before = silent }
+says_failed (Some Run) old script said files silent stands = inl (silent, refl)
 says_failed (Some (Gen creates)) old script said files silent stands = silent
 
 -- a registry that is one was not opened

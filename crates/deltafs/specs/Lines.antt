@@ -1,5 +1,5 @@
 -- What the lines of a script leave, one after the other.
-use Rattle.std.specs.Prelude.{◌≡◌, ◌⊎◌, ℕ, List, [], ◌++◌, take, Option, Some, Result, Ok, Err, IsErrOf}
+use Rattle.std.specs.Prelude.{◌≡◌, ◌<◌, ◌⊎◌, ℕ, List, [], ◌++◌, length, take, Option, Some, Result, Ok, Err, IsErrOf}
 use Rattle.dfs_gen.specs.Summary.{Counts, counts_of, counted}
 use Rattle.dfs_host.specs.Disk.{Image}
 use Rattle.dfs_host.specs.Host.{HostState, said_of}
@@ -47,11 +47,11 @@ abbrev pub status_after : Result (Unit {0}) Stop → Status
 status_after (Ok _) = Done
 status_after (Err s) = status_by s
 
--- what was said behind `old` of a text
+-- what was said behind `old` of a text: the output fails only where the text is not empty
 abbrev pub SaysText : Result (Unit {0}) Stop → List ℕ → List ℕ → List ℕ → Type 0
 SaysText (Ok _) text old new = new ≡ old ++ text
 SaysText (Err (stop.Fault f)) text old new = new ≡ old
-SaysText (Err stop.Output) text old new = (count : ℕ) × (new ≡ old ++ take count text)
+SaysText (Err stop.Output) text old new = (0 < length text) × ((count : ℕ) × (new ≡ old ++ take count text))
 
 -- how a reply was counted
 abbrev pub CountsText : Result (Unit {0}) Stop → List ℕ → Counts → Counts → Type 0

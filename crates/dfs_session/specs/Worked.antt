@@ -103,6 +103,24 @@ abbrev pub refused_at_once : Result Line LineFault → Reply → Type 0
 refused_at_once (Ok line) reply = IsRefusedAtOnce line reply
 refused_at_once (Err fault) reply = IsError reply
 
+-- what the line asks for is in the session
+abbrev pub IsFromMemory : Line → Type 0
+IsFromMemory Nothing = Unit {0}
+IsFromMemory (Set what value) = Unit {0}
+IsFromMemory Snapshots = Unit {0}
+IsFromMemory (Begin w names) = ⊥
+IsFromMemory (Space w op) = ⊥
+IsFromMemory (Flush w) = ⊥
+IsFromMemory (Plan w scope parts) = ⊥
+IsFromMemory (Part w part) = ⊥
+IsFromMemory (Stats w) = Unit {0}
+IsFromMemory (Publish w name) = ⊥
+IsFromMemory (End w) = Unit {0}
+
+abbrev pub from_memory : Result Line LineFault → Type 0
+from_memory (Ok line) = IsFromMemory line
+from_memory (Err fault) = Unit {0}
+
 -- no fault but want of memory came, and no call was made on the host
 abbrev pub StaysInMemory : {T : Type 0} → Result T Fault → HostState → HostState → Type 0
 StaysInMemory result before after = IfErr result (λ fault. fault ≡ NoMemory) × (after ≡ before)

@@ -92,7 +92,8 @@ impl Session {
     pub(crate) fn set(&mut self, what: Setting, value: u64) -> Result<Vec<u8>, Fault>
         requires sound { IsSoundInMemory self.old }
         requires range { IsTrue (is_in_range what value) }
-        ensures { IsWorkedInMemory (setting what value) self.old self.new result }
+        ensures worked { IsWorkedInMemory (setting what value) self.old self.new result }
+        ensures memory { IfErr result (λ fault. fault ≡ Fault.NoMemory) }
     {
         self.settings = with_setting(self.settings, what, value);
         text_of(self.alloc, &Reply::Ok)
@@ -101,7 +102,8 @@ impl Session {
     /// Tells the names and jobs of the publications.
     pub(crate) fn tell_snapshots(&self) -> Result<Vec<u8>, Fault>
         requires { IsSoundInMemory self.now }
-        ensures { IsWorkedInMemory (plain tells_snapshots) self.now self.now result }
+        ensures worked { IsWorkedInMemory (plain tells_snapshots) self.now self.now result }
+        ensures memory { IfErr result (λ fault. fault ≡ Fault.NoMemory) }
     {
         let list = snapshots(self.alloc, &self.registry)?;
         text_of(self.alloc, &Reply::Snapshots(list))

@@ -30,7 +30,7 @@ returns-in-Run-clause-says g c old start =
     let kept = (silent_only c.open.ensures.only).content start.host_tells in
     let first = opened_first (command_of c.args.words.now) old host source start Run mid c.in-Ok-open.session kept (c.in-Ok-open.ensures.stands old start.host_tells start.settled start.value) (c.open.ensures.value start.host_tells (start.settled 0)) in
     subst (λ k. Says k c.run_script.result old source.rest (g.S.Source.state c.run_script.new.source).rest (said_of new) (value_on new)) (sym is)
-    (c.run_script.ensures.says old (c.open.ensures.cause.tells ∙ start.host_tells) (start.source_tells is) (subst (λ (k : Counts). IsAfter Run old [] mid k c.in-Ok-open.session) (sym c.new-summary.ensures) first))
+    (inr (c.run_script.ensures.says old (c.open.ensures.cause.tells ∙ start.host_tells) (start.source_tells is) (subst (λ (k : Counts). IsAfter Run old [] mid k c.in-Ok-open.session) (sym c.new-summary.ensures) first)))
 
 pub returns-in-Run-clause-images : goal.returns-in-Run-clause-images
 returns-in-Run-clause-images g c old start =

@@ -16,13 +16,13 @@ returns-in-Nothing-clause-worked g c =
 pub returns-in-Set-clause-worked : goal.returns-in-Set-clause-worked
 returns-in-Set-clause-worked g c =
     let host = g.H.Host.state c.args.host.now in
-    subst (λ (line : Line). IsWorked (of_command line) host host c.args.self.now c.set.new.self c.set.result) (sym c.in-Set.is) (c.set.ensures host c.requires.sound)
+    subst (λ (line : Line). IsWorked (of_command line) host host c.args.self.now c.set.new.self c.set.result) (sym c.in-Set.is) (c.set.ensures.worked host c.requires.sound)
 
 pub returns-in-Snapshots-clause-worked : goal.returns-in-Snapshots-clause-worked
 returns-in-Snapshots-clause-worked g c =
     let session = c.args.self.now in
     let host = g.H.Host.state c.args.host.now in
-    subst (λ (line : Line). IsWorked (of_command line) host host session session c.tell_snapshots.result) (sym c.in-Snapshots.is) (c.tell_snapshots.ensures host c.requires.sound)
+    subst (λ (line : Line). IsWorked (of_command line) host host session session c.tell_snapshots.result) (sym c.in-Snapshots.is) (c.tell_snapshots.ensures.worked host c.requires.sound)
 
 pub returns-in-Stats-clause-worked : goal.returns-in-Stats-clause-worked
 returns-in-Stats-clause-worked g c =

@@ -12,8 +12,8 @@ use Rattle.dfs_session.proofs.Values.{stands_value}
 use Rattle.dfs_session.proofs.Working.{on_ok, same_names, worked_by_memory}
 use Rattle.dfs_session.proofs.session.Session.set.Goals as goal
 
-pub returns : goal.returns
-returns c = λ host sound.
+pub returns-clause-worked : goal.returns-clause-worked
+returns-clause-worked c = λ host sound.
     let old = c.args.self.now in
     let new : LiveSession = record old { settings = c.with_setting-self.result } in
     let memory = sound.memory in

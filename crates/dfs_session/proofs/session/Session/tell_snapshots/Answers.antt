@@ -17,8 +17,8 @@ use Rattle.dfs_session.proofs.Values.{stands_value}
 use Rattle.dfs_session.proofs.Working.{stays_in_memory}
 use Rattle.dfs_session.proofs.session.Session.tell_snapshots.Goals as goal
 
-pub returns-in_err-list : goal.returns-in_err-list
-returns-in_err-list c =
+pub returns-in_err-list-clause-worked : goal.returns-in_err-list-clause-worked
+returns-in_err-list-clause-worked c =
     let session = c.args.self.now in
     let p = err_from_is_err_and c.from_residual.result c.from_residual.ensures.1 in
     let same : c.from_residual.result ≡ Err NoMemory = p.1 ∙ ap Err (p.2 ∙ c.in_err-list.ensures.memory) in
@@ -28,8 +28,8 @@ returns-in_err-list c =
     (λ s tells stands. stands_value host session s tells sound stands) (λ s tells stands. refl)
     (λ s tells stands. read_images host host session s s.registry tells sound stands (reads_nothing host)))
 
-pub returns : goal.returns
-returns c =
+pub returns-clause-worked : goal.returns-clause-worked
+returns-clause-worked c =
     let session = c.args.self.now in
     λ host sound.
     stays_in_memory host session session.jobs (plain tells_snapshots) (SnapshotsReply c.in_ok-list.list) c.text_of.result refl refl sound

@@ -5,6 +5,7 @@ use Rattle.std.specs.Prelude.{Some, Option, slice_get}
 use Rattle.std.specs.List.{sum_by}
 use Rattle.std.proofs.lemmas.Option.{same_Some}
 use Rattle.std.proofs.lemmas.Result.{err_from_is_err_and}
+use Rattle.dfs_log.specs.Logs.{LogState}
 use Rattle.dfs_table.specs.declared.run.Run.{Run}
 use Rattle.dfs_table.specs.declared.table.Table.{Table}
 use Rattle.dfs_table.specs.Counts.{count_of}
@@ -150,7 +151,14 @@ returns-in_default-clause-growth_of_all g c = λ ds tells stands.
     let there = none_there c.self.inside.merged.items c.args.part c.index.result.now (omega (arith, c.if-part-len.false, c.len-2.ensures)) c.index.ensures (sym c.is_some.ensures ∙ c.if-is_some.false) in
     let sources = subst (λ (rs : List (Rc Run Global)). AreSources files (map (λ r. r.value) rs) ds) (sym c.deref.ensures.value) start.sources in
     let next = few_with_next files c.args.log.now.file state ds c.self.invariant.0 start c.args.part there in
-    omega (arith, next, c.in_ok-run.ensures.growth_of_part ds tells sources, ap (λ (s : CompactionState). count_of (all_fences (tables_of s.merged))) c.self.view_is, ap (λ (s : CompactionState). count_all s.sources) c.self.view_is)
+    omega (
+      arith,
+      next,
+      c.in_ok-run.ensures.growth_of_part ds tells sources,
+      ap (λ (s : CompactionState). count_of (all_fences (tables_of s.merged))) c.self.view_is,
+      ap (λ (s : CompactionState). count_all s.sources) c.self.view_is,
+      ap (λ (l : LogState). l.len + l.refused) c.spend.ensures.spent,
+    )
 
 pub returns-clause-growth_of_all : goal.returns-clause-growth_of_all
 returns-clause-growth_of_all g c = λ ds tells stands.
@@ -210,7 +218,8 @@ returns-in_default-clause-growth_of_part g c = λ ds tells stands.
     let start = subst (λ (s : CompactionState). Stands files c.args.log.now.file s ds) (sym c.self.view_is) stands in
     let there = none_there c.self.inside.merged.items c.args.part c.index.result.now (omega (arith, c.if-part-len.false, c.len-2.ensures)) c.index.ensures (sym c.is_some.ensures ∙ c.if-is_some.false) in
     let sources = subst (λ (rs : List (Rc Run Global)). AreSources files (map (λ r. r.value) rs) ds) (sym c.deref.ensures.value) start.sources in
-    subst (λ (s : CompactionState). c.write_part.new.log.len + c.write_part.new.log.refused ≤ c.args.log.now.len + 1100 * length (part_of s ds c.args.part)) c.self.view_is (c.in_ok-run.ensures.growth_of_part ds tells sources)
+    subst (λ (l : LogState). l.len + l.refused ≤ c.args.log.now.len + 1100 * length (part_of c.args.self.now ds c.args.part)) (sym c.spend.ensures.spent)
+    (subst (λ (s : CompactionState). c.write_part.new.log.len + c.write_part.new.log.refused ≤ c.args.log.now.len + 1100 * length (part_of s ds c.args.part)) c.self.view_is (c.in_ok-run.ensures.growth_of_part ds tells sources))
 
 pub returns-clause-growth_of_part : goal.returns-clause-growth_of_part
 returns-clause-growth_of_part g c = λ ds tells stands.

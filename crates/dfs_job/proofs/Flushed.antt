@@ -1,9 +1,10 @@
 -- What a job has once its open layer is closed.
-use Rattle.std.proofs.Common.{◌≡◌, ◌∙◌, ℕ, List, [], ◌∷◌, ◌++◌, length, map, refl, sym, ap, subst, arith, append-nil}
+use Rattle.std.proofs.Common.{◌≡◌, ◌∙◌, ◌+◌, ℕ, List, [], ◌∷◌, ◌++◌, length, map, refl, sym, ap, subst, arith, append-nil}
 use Rattle.std.specs.Prelude.{flat_map}
 use Rattle.std.specs.List.{AllByRecursion}
 use Rattle.std.proofs.lemmas.Grind.{flat_map-append}
 use Rattle.std.proofs.lemmas.List.{map-append}
+use Rattle.std.proofs.lemmas.List.Sums.{sum_by-append, sum_by-cons}
 use Rattle.dfs_host.specs.Host.{HostState, bytes_of}
 use Rattle.dfs_record.specs.declared.Record.{Record}
 use Rattle.dfs_record.specs.Delta.{delta, records_of}
@@ -11,7 +12,7 @@ use Rattle.dfs_change.specs.Identities.{FitsJob}
 use Rattle.dfs_fence.specs.declared.fence.Fence.{Fence}
 use Rattle.dfs_ops.specs.Within.{IsRecordWithin}
 use Rattle.dfs_table.specs.declared.run.Run.{Run}
-use Rattle.dfs_table.specs.Cut.{IsCut, block_firsts}
+use Rattle.dfs_table.specs.Cut.{IsCut, block_firsts, tables_needed}
 use Rattle.dfs_table.specs.Stored.{IsStored}
 use Rattle.dfs_table.specs.Tables.{all_fences}
 use Rattle.dfs_table.proofs.Firsts.{run_firsts}
@@ -23,7 +24,7 @@ use Rattle.dfs_view.specs.Lists.{Layered, closed_by, flushed, joined}
 use Rattle.dfs_view.specs.View.{AddsOpen}
 use Rattle.dfs_job.specs.Job.{Job}
 use Rattle.dfs_job.specs.Sealed.{IsSealable}
-use Rattle.dfs_job.specs.Stands.{IsFair}
+use Rattle.dfs_job.specs.Stands.{IsFair, table_count}
 use Rattle.dfs_job.proofs.Fair.{within_fits}
 use Rattle.dfs_job.proofs.Layers.{flushed_closed}
 use Rattle.dfs_job.proofs.Sealing.{stored_lengths}
@@ -66,3 +67,22 @@ firsts_flushed host after old new l stands stored adds = by l.open_ refl
         ap first_keys more.runs ∙ firsts_more (own_runs old) more.run
         ∙ ap (λ ks. first_keys (own_runs old) ++ ks) (run_firsts file more.run (delta (r ∷ rs)) one (subst (λ d. IsCut (records_of d) more.run.tables) held more.cut))
         ∙ ap (λ xs. first_keys (own_runs old) ++ block_firsts (records_of (delta xs))) (sym e)
+
+-- it has their tables, and those that the records of the open layer need
+pub tables_flushed : (host : HostState) (old new : Layers) (l : Layered) → StandFor host old l → AddsOpen old new → table_count (own_runs new) ≡ table_count (own_runs old) + tables_needed (records_of (delta l.open_))
+tables_flushed host old new l stands adds = by l.open_ refl
+  where
+    by : (rs : List Record) → l.open_ ≡ rs → table_count (own_runs new) ≡ table_count (own_runs old) + tables_needed (records_of (delta l.open_))
+    by [] e =
+        let none : tables_needed (records_of (delta l.open_)) ≡ 0 = ap (λ rs. tables_needed (records_of (delta rs))) e in
+        omega (arith, none, ap table_count (adds.none (omega (arith, stands.open_.made, ap length e))))
+    by (r ∷ rs) e =
+        let more = adds.one (omega (arith, stands.open_.made, ap length e)) in
+        omega (
+          arith,
+          ap table_count more.runs,
+          sum_by-append (λ (x : Run). length x.tables) (own_runs old) (more.run ∷ []),
+          sum_by-cons (λ (x : Run). length x.tables) more.run [],
+          more.cut.needed,
+          ap (λ d. tables_needed (records_of d)) stands.open_.held,
+        )

@@ -176,7 +176,7 @@ module _ (host host_after : HostState) (old new : LiveJob) (j : Job) (tells : Is
             let limit : old.layers.limit ≡ j.settings.buffer = fit.buffer ∙ ap (λ (s : Settings). s.buffer) (sym stands.settings) in
             subst (StandFor host_after new.layers) (λ i. add_all (limit i) j.layers (whole i)) (works.added tells refl j.layers stands.layers);
         basis = basis_stands;
-        plan = plan_stands (after j (does j op)) grown.0 works.file refl grown.1 refl (works.bytes tells refl);
+        plan = plan_stands (after j (does j op)) grown.0 works.file refl grown.1 refl (works.bytes tells);
         fair = fair;
         account = account_after old new j (after j (does j op)) (length records) stands.account same_basis works.counted (omega (arith, works.growth)) refl (ap (λ (rs : List Record). j.ids.made + length rs) (sym whole)) refl refl plan;
       }
@@ -193,7 +193,7 @@ module _ (host host_after : HostState) (old new : LiveJob) (j : Job) (tells : Is
         stand = stand;
         layers = works.added tells refl j.layers stands.layers;
         basis = basis_stands;
-        plan = plan_stands (after_flush j) grown.0 works.file refl grown.1 refl (works.bytes tells refl);
+        plan = plan_stands (after_flush j) grown.0 works.file refl grown.1 refl (works.bytes tells);
         fair = fair;
         account = account_after old new j (after_flush j) 0 stands.account same_basis works.counted (omega (arith, works.growth)) refl (omega arith) refl refl plan;
       }

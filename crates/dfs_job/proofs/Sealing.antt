@@ -23,6 +23,7 @@ use Rattle.dfs_change.specs.Whole.{HasChanges}
 use Rattle.dfs_change.proofs.Fits.{all_within}
 use Rattle.dfs_change.proofs.Meant.{whole_logs_mean}
 use Rattle.dfs_view.specs.Layers.{AreStored, run_count}
+use Rattle.dfs_job.specs.Stands.{table_count}
 use Rattle.dfs_job.proofs.Layers.{delta_fits}
 
 -- ---- how many records there are
@@ -125,6 +126,9 @@ only_stored file rs r ls one at stored = one_layer file r ls (subst (λ x. AreSt
 
 pub only_count : (rs : List Run) (r : Run) → length rs ≡ 1 → slice_get rs 0 ≡ Some r → sum_by run_count rs ≡ run_count r
 only_count rs r one at = omega (arith, ap (λ x. sum_by run_count x) (only_run rs r one at), sum_by-cons run_count r [])
+
+pub only_tables : (rs : List Run) (r : Run) → length rs ≡ 1 → slice_get rs 0 ≡ Some r → table_count rs ≡ length r.tables
+only_tables rs r one at = omega (arith, ap table_count (only_run rs r one at), sum_by-cons (λ (x : Run). length x.tables) r [])
 
 pub joined_fit : (job : ℕ) (ls : List (List Record)) → AllByRecursion (FitsJob job) (flat_map (λ (rs : List Record). rs) ls) → AreFit job (delta (flat_map (λ (rs : List Record). rs) ls))
 joined_fit job ls all = delta_fits job (flat_map (λ (rs : List Record). rs) ls) all

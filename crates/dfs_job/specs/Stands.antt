@@ -8,7 +8,7 @@ use Rattle.dfs_record.specs.Delta.{Delta, delta, records_of}
 use Rattle.dfs_path.specs.declared.Scope.{Scope}
 use Rattle.dfs_path.specs.declared.Scope.TheVariants.{Own, All}
 use Rattle.dfs_table.specs.Counts.{count_of}
-use Rattle.dfs_table.specs.Cut.{IsCut, block_firsts}
+use Rattle.dfs_table.specs.Cut.{IsCut, block_firsts, tables_needed}
 use Rattle.dfs_table.specs.Stored.{IsStored}
 use Rattle.dfs_table.specs.Tables.{all_fences}
 use Rattle.dfs_table.specs.Writer.{AreIn}
@@ -160,14 +160,36 @@ PassesWith (Some u) (Some p) j part = IsOneTooMany u.compaction (covered_changes
 abbrev pub flushed_firsts : LiveJob → Job → List Key
 flushed_firsts live j = first_keys (own_runs live.layers) ++ block_firsts (records_of (delta j.layers.open_))
 
--- The run of these change sets, which are merged in so many parts, would pass 131,072 tables. What cuts them is the first keys of the
--- blocks of the runs that they are stored in. One run alone stands as it is.
-pub record Passes (firsts : List Key) (parts : ℕ) (ds : List Delta) : Type 0 where
-  pub merged : length ds ≢ 1
+-- how many tables the runs have
+abbrev pub table_count : List Run → ℕ
+table_count runs = sum_by (λ r. length r.tables) runs
+
+-- how many tables its layers have, once the open one is closed
+abbrev pub flushed_tables : LiveJob → Job → ℕ
+flushed_tables live j = table_count (own_runs live.layers) + tables_needed (records_of (delta j.layers.open_))
+
+-- Merged in so many parts, the change sets have so many tables. What cuts them is the first keys of the blocks of the runs that they
+-- are stored in.
+pub record MergeTo (firsts : List Key) (parts : ℕ) (ds : List Delta) (tables : ℕ) : Type 0 where
   pub keys : List Key
   pub sorted : AreSorted keys
   pub same : IsPermutation firsts keys
-  pub many : 131072 < tables_below keys parts ds parts
+  pub all : tables ≡ tables_below keys parts ds parts
+
+-- The run of these change sets, which are merged in so many parts, would pass 131,072 tables. One run alone stands as it is.
+pub record Passes (firsts : List Key) (parts : ℕ) (ds : List Delta) : Type 0 where
+  pub merged : length ds ≢ 1
+  pub tables : ℕ
+  pub needed : MergeTo firsts parts ds tables
+  pub many : 131072 < tables
+
+-- A manifest of so many bytes tells of the run of these change sets: of one run's own tables, else of those that it is merged to in so
+-- many parts.
+pub record TellsOf (firsts : List Key) (own parts : ℕ) (ds : List Delta) (bytes : ℕ) : Type 0 where
+  pub tables : ℕ
+  pub len : bytes ≡ 4 + 12 * tables
+  pub alone : length ds ≡ 1 → tables ≡ own
+  pub merged : length ds ≢ 1 → MergeTo firsts parts ds tables
 
 -- So many records, merged in so many parts, may need more than the 131,072 tables of a run, which have 536,870,912 blocks: a part has
 -- at most all records and each block one at least, and of the tables of a part one at most is not full.

@@ -43,6 +43,7 @@ impl Job {
     ghost use Rattle.dfs_ops.specs.Within.{HasNothingIn};
     ghost use Rattle.dfs_path.specs.Op.{IsOp};
     ghost use Rattle.dfs_record.specs.Delta.{Delta};
+    ghost use Rattle.dfs_view.specs.View.{AddsCut, AddsOpen};
     ghost use Rattle.dfs_job.specs.Job.{Job as PlainJob, after, after_flush, begun, does, first_ids, key_count, namespace_of, need, run_count};
     ghost use Rattle.dfs_job.specs.Stands.{AreSettings, IsEarlier, IsSelectable, IsStoredFor, JobIsFit, JobIsSound, JobStands};
 
@@ -101,6 +102,8 @@ impl Job {
         // A directory that a mkdir made is empty: nothing stands in the one that this operation made, or would have made.
         ensures fresh { (j : PlainJob) → Told (H.state host.old) (JobStands (H.state host.old) self.old j → OnOk result (HasNothingIn (namespace_of (after j (does j op.now))) (next_id j.ids))) }
         ensures valid { IfOk result IsReply }
+        // Each run that comes is cut as its records say.
+        ensures cut { Told (H.state host.old) (AddsCut (H.state host.new) self.old.layers self.new.layers) }
         ensures number { OnOk result (self.new.ids.job ≡ self.old.ids.job) }
         ensures settings { self.new.settings ≡ self.old.settings }
         ensures basis { self.new.layers.basis.items ≡ self.old.layers.basis.items }
@@ -110,7 +113,7 @@ impl Job {
         // A record of the open layer or of the operation costs the log at most 1,100 bytes, a refused piece counted, which did not fit.
         ensures growth { self.new.layers.log.len + self.new.layers.log.refused ≤ self.old.layers.log.len + 1100 * (self.old.layers.buffer.made + 2) }
         ensures past { 0 < self.new.layers.log.refused → self.old.layers.log.limit < self.new.layers.log.len + self.new.layers.log.refused }
-        ensures before { Told (H.state host.old) (OnOk result (take (length (bytes_of (H.state host.old) self.old.layers.log.file)) (bytes_of (H.state host.new) self.old.layers.log.file) ≡ bytes_of (H.state host.old) self.old.layers.log.file)) }
+        ensures before { Told (H.state host.old) (take (length (bytes_of (H.state host.old) self.old.layers.log.file)) (bytes_of (H.state host.new) self.old.layers.log.file) ≡ bytes_of (H.state host.old) self.old.layers.log.file) }
         ensures only { Only self.old.ids.job (H.state host.old) (H.state host.new) }
         ensures cause { HasFaultCause (H.state host.old) (H.state host.new) result }
         ensures spent { OnErr result (IsTrue self.new.spent) }
@@ -127,6 +130,8 @@ impl Job {
 
         ensures sound { OnOk result (JobIsSound (H.state host.new) self.new) }
         ensures stands { (j : PlainJob) → Told (H.state host.old) (JobStands (H.state host.old) self.old j → OnOk result (JobStands (H.state host.new) self.new (after_flush j))) }
+        // The run of the open layer is cut as its records say.
+        ensures cut { OnOk result (AddsOpen self.old.layers self.new.layers) }
         ensures number { self.new.ids ≡ self.old.ids }
         ensures settings { self.new.settings ≡ self.old.settings }
         ensures basis { self.new.layers.basis.items ≡ self.old.layers.basis.items }
@@ -136,7 +141,7 @@ impl Job {
         // A record of the open layer costs the log at most 1,100 bytes, a refused piece counted, which did not fit.
         ensures growth { self.new.layers.log.len + self.new.layers.log.refused ≤ self.old.layers.log.len + 1100 * self.old.layers.buffer.made }
         ensures past { 0 < self.new.layers.log.refused → self.old.layers.log.limit < self.new.layers.log.len + self.new.layers.log.refused }
-        ensures before { Told (H.state host.old) (OnOk result (take (length (bytes_of (H.state host.old) self.old.layers.log.file)) (bytes_of (H.state host.new) self.old.layers.log.file) ≡ bytes_of (H.state host.old) self.old.layers.log.file)) }
+        ensures before { Told (H.state host.old) (take (length (bytes_of (H.state host.old) self.old.layers.log.file)) (bytes_of (H.state host.new) self.old.layers.log.file) ≡ bytes_of (H.state host.old) self.old.layers.log.file) }
         ensures only { Only self.old.ids.job (H.state host.old) (H.state host.new) }
         ensures cause { HasFaultCause (H.state host.old) (H.state host.new) result }
         ensures reads { (H.state host.new).reads ≡ (H.state host.old).reads }

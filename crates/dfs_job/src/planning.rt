@@ -33,6 +33,7 @@ impl Job {
     ghost use Rattle.dfs_host.specs.Fault.{HasFaultCause};
     ghost use Rattle.dfs_host.specs.Host.{HostState, Told, Only};
     ghost use Rattle.dfs_view.specs.Layers.{Stand};
+    ghost use Rattle.dfs_view.specs.View.{AddsOpen};
     ghost use Rattle.dfs_job.specs.Job.{Job as PlainJob, after_part, after_plan, joined_as, merged_as, need, part_answer, plan_answer, with_plan};
     ghost use Rattle.dfs_compact.specs.Compaction.{IsMerged};
     ghost use Rattle.dfs_job.specs.Parted.{IsRefusedPart, IsRefusedPlan};
@@ -57,6 +58,8 @@ impl Job {
         ensures most { (result ≡ Ok Planned.Full) ↔ ((self.old.plan ≡ None) × (self.old.plans ≡ 65535)) }
         ensures refused { IfOk result (λ answer. IsRefusedPlan answer → (self.new ≡ self.old) × (H.state host.new ≡ H.state host.old)) }
         ensures stands { (j : PlainJob) → Told (H.state host.old) (JobStands (H.state host.old) self.old j → OnOk result (JobStands (H.state host.new) self.new (after_plan j scope parts))) }
+        // The run of the open layer, which a plan that is made closes, is cut as its records say.
+        ensures cut { (result ≡ Ok Planned.Made) → AddsOpen self.old.layers self.new.layers }
         ensures number { self.new.ids ≡ self.old.ids }
         ensures settings { self.new.settings ≡ self.old.settings }
         ensures basis { self.new.layers.basis.items ≡ self.old.layers.basis.items }

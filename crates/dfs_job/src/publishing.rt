@@ -21,7 +21,7 @@ ghost use Rattle.dfs_compact.specs.Parts.{AreSources, count_all, first_keys, tab
 ghost use Rattle.dfs_plan.specs.Parts.{AreSorted};
 ghost use Rattle.dfs_record.specs.Records.{Files};
 ghost use Rattle.dfs_job.specs.Sealed.{AreSealable, IsRunOfJob, IsSealable};
-ghost use Rattle.dfs_job.specs.Stands.{Passes, may_pass};
+ghost use Rattle.dfs_job.specs.Stands.{MergeTo, Passes, TellsOf, may_pass, table_count};
 
 use crate::Job;
 use crate::planning::add_runs;
@@ -45,7 +45,7 @@ impl Job {
     ghost use Rattle.dfs_change.specs.Sealing.{entry_of};
     ghost use Rattle.dfs_view.specs.Layers.{own_runs};
     ghost use Rattle.dfs_job.specs.Job.{Job as PlainJob, after_flush, layer_changes, need, own_changes};
-    ghost use Rattle.dfs_job.specs.Stands.{JobIsSound, JobStands, Passes, flushed_firsts, own_count, publishes_too_many};
+    ghost use Rattle.dfs_job.specs.Stands.{JobIsSound, JobStands, Passes, TellsOf, flushed_firsts, flushed_tables, own_count, publishes_too_many};
 
     /// Seals all layers of the job as one run in its log: the only one as it stands, several ones merged in as many parts as the
     /// settings say, none as a run without a table. What it selected is no part of that, and a plan under way is given up. The job is
@@ -57,6 +57,9 @@ impl Job {
         ensures changes { (j : PlainJob) → Told (H.state host.old) (JobStands (H.state host.old) self.old j
             → IfOk result (λ sealed. (name : List ℕ) → log_meaning (bytes_of (H.state host.new) self.old.ids.job) (entry_of name self.old.ids.job sealed) ≡ Some (own_changes j))) }
         ensures count { (j : PlainJob) → Told (H.state host.old) (JobStands (H.state host.old) self.old j → IfOk result (λ sealed. sealed.count ≡ len (own_changes j))) }
+        // The manifest tells of just the tables of that run: the only layer's, or those of as many parts as the settings say.
+        ensures tables { (j : PlainJob) → Told (H.state host.old) (JobStands (H.state host.old) self.old j
+            → IfOk result (λ sealed. TellsOf (flushed_firsts self.old j) (flushed_tables self.old j) self.old.settings.parts (layer_changes (after_flush j)) sealed.len)) }
         ensures settled { Told (H.state host.old) (OnOk result (IsSettled ((H.state host.new).disk.files self.old.ids.job))) }
         ensures number { self.new.ids ≡ self.old.ids }
         ensures settings { self.new.settings ≡ self.old.settings }
@@ -99,6 +102,8 @@ fn seal<H: Host>(
     ensures changes { (ls : List (List AnyRecord)) → Told (H.state host.old) (IsSealable (H.state host.old) layers.old.log.file (own_runs layers.old) ls
         → IfOk result (λ sealed. (name : List ℕ) → log_meaning (bytes_of (H.state host.new) layers.old.log.file) (entry_of name layers.old.log.file sealed) ≡ Some (delta (flat_map (λ rs. rs) ls)))) }
     ensures count { (ls : List (List AnyRecord)) → Told (H.state host.old) (IsSealable (H.state host.old) layers.old.log.file (own_runs layers.old) ls → IfOk result (λ sealed. sealed.count ≡ len (delta (flat_map (λ rs. rs) ls)))) }
+    ensures tables { (ls : List (List AnyRecord)) → Told (H.state host.old) (IsSealable (H.state host.old) layers.old.log.file (own_runs layers.old) ls
+        → IfOk result (λ sealed. TellsOf (first_keys (own_runs layers.old)) (table_count (own_runs layers.old)) parts (map delta ls) sealed.len)) }
     ensures settled { Told (H.state host.old) (OnOk result (IsSettled ((H.state host.new).disk.files layers.old.log.file))) }
     ensures same { (layers.new.basis.items ≡ layers.old.basis.items) × (layers.new.runs.items ≡ layers.old.runs.items) }
     ensures passes { (ls : List (List AnyRecord)) → Told (H.state host.old) (IsSealable (H.state host.old) layers.old.log.file (own_runs layers.old) ls
@@ -137,6 +142,7 @@ fn finish<H: Host>(
     ensures changes { (d : Delta) → Told (H.state host.old) (IsStored (bytes_of (H.state host.old) log.old.file) run.now d
         → IfOk result (λ sealed. (name : List ℕ) → log_meaning (bytes_of (H.state host.new) log.old.file) (entry_of name log.old.file sealed) ≡ Some d)) }
     ensures count { (d : Delta) → Told (H.state host.old) (IsStored (bytes_of (H.state host.old) log.old.file) run.now d → IfOk result (λ sealed. sealed.count ≡ len d)) }
+    ensures len { IfOk result (λ sealed. sealed.len ≡ 4 + 12 * length run.now.tables) }
     ensures settled { Told (H.state host.old) (OnOk result (IsSettled ((H.state host.new).disk.files log.old.file))) }
     ensures full { IsErrOf result Fault.LogFull ↔ (0 < log.new.refused) }
     ensures past { 0 < log.new.refused → log.old.limit < log.new.len + log.new.refused }
@@ -168,6 +174,8 @@ fn merge_runs<H: Host>(
     ensures own { IfOk result (IsOwnRun log.old.file) }
     ensures count { (ls : List (List AnyRecord)) → Told (H.state host.old) (AreStored (bytes_of (H.state host.old) log.old.file) (map (λ r. r.value) runs.now) ls
         → IfOk result (λ run. run_count run ≤ sum_by run_count (map (λ r. r.value) runs.now))) }
+    ensures tables { (ls : List (List AnyRecord)) → Told (H.state host.old) (AreStored (bytes_of (H.state host.old) log.old.file) (map (λ r. r.value) runs.now) ls
+        → IfOk result (λ run. MergeTo (first_keys (map (λ r. r.value) runs.now)) parts (map delta ls) (length run.tables))) }
     ensures log { Told (H.state host.old) (OnOk result (LogStands (H.state host.new) log.new)) }
     ensures live { OnOk result (IsFalse log.new.spent) }
     ensures passes { (ls : List (List AnyRecord)) → Told (H.state host.old) (AreStored (bytes_of (H.state host.old) log.old.file) (map (λ r. r.value) runs.now) ls

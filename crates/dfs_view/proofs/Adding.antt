@@ -19,6 +19,7 @@ use Rattle.dfs_record.specs.Namespace.{Namespace, after_record, after_records}
 use Rattle.dfs_record.proofs.Replays.{after-append, delta-records_of, effect, get-after_records, replay_as_delta}
 use Rattle.dfs_buffer.specs.Buffer.{Buffered, StandsFor, after_put, counted}
 use Rattle.dfs_table.specs.declared.run.Run.{Run}
+use Rattle.dfs_table.specs.Cut.{IsCut}
 use Rattle.dfs_table.specs.Stored.{IsStored, IsTableOf, run_records}
 use Rattle.dfs_table.proofs.Stays.{all_append, all_weaker, run_stays, tables_stay}
 use Rattle.dfs_view.specs.declared.layers.Layers.{Layers}
@@ -62,11 +63,12 @@ put_failed host layers b r none = record {
   more = [];
   runs = sym (append-nil (own_runs layers));
   more_own = tt;
+  more_cut = λ tells. tt;
   counted = omega arith;
   growth = omega (arith, none);
   past = λ over. absurd (omega (arith, over, none));
   added = λ tells live. absurd (cc live);
-  bytes = λ tells live. absurd (cc live);
+  bytes = λ tells. take_all _ _ (omega arith);
 }
 
 not_full : (n limit : ℕ) → counted n < limit → limit ≤ 65536 → (n == limit) ≡ false
@@ -91,6 +93,7 @@ module _ (host : HostState) (layers : Layers) (b : Buffered) (r : Record) (is : 
     more = [];
     runs = sym (append-nil (own_runs layers));
     more_own = tt;
+    more_cut = λ tells. tt;
     counted = omega (arith, made_more);
     growth = omega (arith, none, made_more);
     past = λ over. absurd (omega (arith, over, none));
@@ -100,7 +103,7 @@ module _ (host : HostState) (layers : Layers) (b : Buffered) (r : Record) (is : 
         subst (StandFor host (record layers { buffer = b }))
         (sym (ap (λ c. if c then record { closed = l.closed ++ (l.open_ ++ r ∷ []) ∷ []; open_ = [] } else record { closed = l.closed; open_ = l.open_ ++ r ∷ [] }) open_still))
         (record { closed = stands.closed; open_ = stood });
-    bytes = λ tells live. take_all _ _ (omega arith);
+    bytes = λ tells. take_all _ _ (omega arith);
   }
 
 -- ---- a layer that closes
@@ -210,6 +213,10 @@ module _ (host after : HostState) (old new : Layers) (b : Buffered) (count : ℕ
   mid_stand : IsTrue host.tells → Stand host (record old { buffer = b })
   mid_stand tells = let s = stand tells in record { log = s.log; runs = s.runs }
 
+  kept : {A : Type 0} {result : Result A Fault} → Closes host after (record old { buffer = b }) new result
+      → Told host (take (length (bytes_of host old.log.file)) (bytes_of after old.log.file) ≡ bytes_of host old.log.file)
+  kept closes = λ tells. ap (λ n. take n (bytes_of after old.log.file)) (stand tells).log.len ∙ closes.before tells
+
   pub closing_works : {A : Type 0} (result : Result A Fault) → Closes host after (record old { buffer = b }) new result
       → WorksOn (record { host = host; layers = old; live = true }) (record { host = after; layers = new; live = is_ok result }) count becomes
   closing_works (Err e) closes = record {
@@ -222,11 +229,12 @@ module _ (host after : HostState) (old new : Layers) (b : Buffered) (count : ℕ
     more = [];
     runs = closes.same_runs ∙ sym (append-nil (own_runs old));
     more_own = tt;
+    more_cut = λ tells. tt;
     counted = omega (arith, ap (λ rs. sum_by run_count rs) closes.same_runs);
     growth = omega (arith, closes.growth, made);
     past = closes.past;
     added = λ tells live. absurd (cc live);
-    bytes = λ tells live. absurd (cc live);
+    bytes = kept closes;
   }
   closing_works (Ok x) closes =
       let closed = closes.closed in
@@ -240,6 +248,7 @@ module _ (host after : HostState) (old new : Layers) (b : Buffered) (count : ℕ
         more = closed.run ∷ [];
         runs = closed.runs;
         more_own = (closed.own, tt);
+        more_cut = λ tells. let stored = closed.stored tells in (record { each = stored.each; cut = subst (λ rs. IsCut rs closed.run.tables) (sym stored.records) closed.cut }, tt);
         counted = omega (
           arith,
           ap (λ rs. sum_by run_count rs) closed.runs,
@@ -258,7 +267,7 @@ module _ (host after : HostState) (old new : Layers) (b : Buffered) (count : ℕ
               closed = closed_stores host after (record old { buffer = b }) new closes tells (mid_stand tells) closed l.closed with.records stands.closed with.stood;
               open_ = subst (λ (y : Buffered). StandsFor y []) (sym closed.emptied) (record { held = refl; made = refl });
             });
-        bytes = λ tells live. ap (λ n. take n (bytes_of after old.log.file)) (stand tells).log.len ∙ closes.before tells;
+        bytes = kept closes;
       }
 
 -- a record with which the open layer closes
@@ -305,11 +314,12 @@ none_to_close host layers fit none = record {
   more = [];
   runs = sym (append-nil (own_runs layers));
   more_own = tt;
+  more_cut = λ tells. tt;
   counted = omega arith;
   growth = omega (arith, fit.none_refused);
   past = λ over. absurd (omega (arith, over, fit.none_refused));
   added = λ tells live l stands. subst (StandFor host layers) (sym (flushed_none l (omega (arith, none, stands.open_.made)))) stands;
-  bytes = λ tells live. take_all _ _ (omega arith);
+  bytes = λ tells. take_all _ _ (omega arith);
 }
 
 -- ---- looks
@@ -339,11 +349,12 @@ looks v host s live fit same = record {
       more = [];
       runs = sym (append-nil (own_runs v.layers));
       more_own = tt;
+      more_cut = λ tells. tt;
       counted = omega (arith, all (not s));
       growth = omega (arith, fit.none_refused, all (not s));
       past = λ over. absurd (omega (arith, over, fit.none_refused));
       added = λ tells live l stands. stands;
-      bytes = λ tells live. take_all _ _ (omega arith);
+      bytes = λ tells. take_all _ _ (omega arith);
     }
 
 effects : (o : Option Value) → effect o None ≡ entry_left o

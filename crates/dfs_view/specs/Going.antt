@@ -1,16 +1,19 @@
 -- The two laws of a view.
-use Rattle.std.specs.Prelude.{◌≡◌, ◌≤◌, ◌<◌, ◌+◌, ◌*◌, ◌⊎◌, ℕ, Bool, true, false, not, IsTrue, IsFalse, cond, List, [], ◌∷◌, ◌++◌, length, take, refl}
+use Rattle.std.specs.Prelude.{◌≡◌, ◌≤◌, ◌<◌, ◌+◌, ◌*◌, ◌⊎◌, ℕ, Bool, true, false, not, IsTrue, IsFalse, cond, List, [], ◌∷◌, ◌++◌, length, take, drop, refl}
 use Rattle.std.specs.List.{AllByRecursion, sum_by}
 use Rattle.std.proofs.Common.{sym, ◌∙◌, ap, subst, inl, inr, arith, length-append, append_assoc}
-use Rattle.std.proofs.lemmas.List.{take_all, take-take, length-take, append-nil}
+use Rattle.std.proofs.lemmas.List.{take_all, take-append-drop, take-take, length-take, append-nil}
 use Rattle.std.proofs.lemmas.List.Sums.{sum_by-append}
-use Rattle.dfs_host.specs.Host.{bytes_of, Only}
+use Rattle.dfs_host.specs.Host.{HostState, bytes_of, Only}
 use Rattle.dfs_host.proofs.Moments.{nothing_done, only_goes_on, reads_nothing, reads_go_on}
 use Rattle.dfs_record.specs.declared.Record.{Record}
-use Rattle.dfs_table.proofs.Stays.{all_append}
+use Rattle.dfs_table.specs.declared.run.Run.{Run}
+use Rattle.dfs_table.specs.Cut.{IsCut}
+use Rattle.dfs_table.specs.Stored.{IsTableOf, run_records}
+use Rattle.dfs_table.proofs.Stays.{all_append, all_weaker, run_stays, tables_stay}
 use Rattle.dfs_view.specs.Lists.{Layered, add_one, add_all}
 use Rattle.dfs_view.specs.Layers.{AreFit, StandFor, own_runs, run_count}
-use Rattle.dfs_view.specs.View.{Pair, GoesOn, IsOwnRun, LeavesLog, Parts, closed_count, pair_of, ViewFollows}
+use Rattle.dfs_view.specs.View.{Pair, GoesOn, IsCutIn, IsOwnRun, LeavesLog, Parts, closed_count, pair_of, ViewFollows}
 
 pub add_all-append : (limit : ℕ) (l : Layered) (rs ss : List Record) → add_all limit l (rs ++ ss) ≡ add_all limit (add_all limit l rs) ss
 add_all-append limit l [] ss = refl
@@ -20,6 +23,17 @@ take_kept : (a b c : List ℕ) → take (length a) b ≡ a → take (length b) c
 take_kept a b c first second =
     let le : length a ≤ length b = omega (arith, ap length first, length-take (length a) b) in
     sym (take-take (length a) (length b) c le) ∙ ap (take (length a)) second ∙ first
+
+-- a run stays as its file grows
+cut_stays : (host after : HostState) (file : ℕ) (run : Run) → take (length (bytes_of host file)) (bytes_of after file) ≡ bytes_of host file → IsCutIn host file run → IsCutIn after file run
+cut_stays host after file run kept is =
+    let old = bytes_of host file in
+    let behind = drop (length old) (bytes_of after file) in
+    let grown : bytes_of after file ≡ old ++ behind = sym (take-append-drop (length old) (bytes_of after file)) ∙ ap (λ l. l ++ behind) kept in
+    record {
+      each = subst (λ l. AllByRecursion (IsTableOf l) run.tables) (sym grown) (tables_stay old behind run.tables is.each);
+      cut = subst (λ rs. IsCut rs run.tables) (sym (ap (λ l. run_records l run.tables) grown ∙ run_stays old behind run.tables is.each)) is.cut;
+    }
 
 pub goes_on_by_nothing : (p : Pair) → IsTrue p.live → p.layers.log.refused ≡ 0 → GoesOn p p []
 goes_on_by_nothing p live none = record {
@@ -32,16 +46,20 @@ goes_on_by_nothing p live none = record {
   more = [];
   runs = sym (append-nil (own_runs p.layers));
   more_own = tt;
+  more_cut = λ tells. tt;
   counted = rw live (omega arith);
   growth = rw (live, none) (omega arith);
   past = λ over. absurd (omega (arith, over, none));
   added = λ tells live l stands. stands;
-  bytes = λ tells live. take_all _ _ (omega arith);
+  bytes = λ tells. take_all _ _ (omega arith);
 }
 
 pub goes_on_on : (p q r : Pair) (rs ss : List Record) → IsTrue q.live → GoesOn p q rs → GoesOn q r ss → GoesOn p r (rs ++ ss)
 goes_on_on p q r rs ss live first second =
-    let then : Only p.layers.log.file q.host r.host = subst (λ n. Only n q.host r.host) first.file second.only in
+    let file = p.layers.log.file in
+    let then : Only file q.host r.host = subst (λ n. Only n q.host r.host) first.file second.only in
+    let kept : IsTrue p.host.tells → take (length (bytes_of q.host file)) (bytes_of r.host file) ≡ bytes_of q.host file
+    = λ tells. subst (λ n. take (length (bytes_of q.host n)) (bytes_of r.host n) ≡ bytes_of q.host n) first.file (second.bytes (first.only.tells ∙ tells)) in
     record {
       later = omega (arith, first.later, second.later);
       only = only_goes_on first.only then;
@@ -51,7 +69,11 @@ goes_on_on p q r rs ss live first second =
       log_limit = second.log_limit ∙ first.log_limit;
       more = first.more ++ second.more;
       runs = second.runs ∙ ap (λ l. l ++ second.more) first.runs ∙ append_assoc (own_runs p.layers) first.more second.more;
-      more_own = all_append (IsOwnRun p.layers.log.file) first.more second.more first.more_own (subst (λ n. AllByRecursion (IsOwnRun n) second.more) first.file second.more_own);
+      more_own = all_append (IsOwnRun file) first.more second.more first.more_own (subst (λ n. AllByRecursion (IsOwnRun n) second.more) first.file second.more_own);
+      more_cut = λ tells.
+          all_append (IsCutIn r.host file) first.more second.more
+          (all_weaker (IsCutIn q.host file) (IsCutIn r.host file) first.more (λ run. cut_stays q.host r.host file run (kept tells)) (first.more_cut tells))
+          (subst (λ n. AllByRecursion (IsCutIn r.host n) second.more) first.file (second.more_cut (first.only.tells ∙ tells)));
       counted =
           let one = subst (λ (b : Bool). closed_count q.layers + cond b q.layers.buffer.made 0 ≤ closed_count p.layers + (p.layers.buffer.made + length rs)) live first.counted in
           omega (arith, one, second.counted, length-append rs ss);
@@ -62,9 +84,7 @@ goes_on_on p q r rs ss live first second =
       added = λ tells later l stands.
           subst (StandFor r.host r.layers) (ap (λ n. add_all n (add_all p.layers.limit l rs) ss) first.limit ∙ sym (add_all-append p.layers.limit l rs ss))
           (second.added (first.only.tells ∙ tells) later (add_all p.layers.limit l rs) (first.added tells live l stands));
-      bytes = λ tells later.
-          take_kept _ _ _ (first.bytes tells live)
-          (subst (λ n. take (length (bytes_of q.host n)) (bytes_of r.host n) ≡ bytes_of q.host n) first.file (second.bytes (first.only.tells ∙ tells) later));
+      bytes = λ tells. take_kept _ _ _ (first.bytes tells) (kept tells);
     }
 
 either : (b : Bool) → (b ≡ true) ⊎ (b ≡ false)

@@ -9,7 +9,7 @@ use Rattle.dfs_record.specs.declared.Record.{Record}
 use Rattle.dfs_record.specs.Delta.{records_of}
 use Rattle.dfs_table.specs.declared.run.Run.{Run}
 use Rattle.dfs_table.specs.Cut.{IsCut}
-use Rattle.dfs_table.specs.Stored.{IsStored}
+use Rattle.dfs_table.specs.Stored.{IsStored, IsTableOf, run_records}
 use Rattle.dfs_table.specs.Writer.{AreIn}
 use Rattle.dfs_view.specs.declared.layers.Layers.{Layers}
 use Rattle.dfs_view.specs.Layers.{StandFor, own_runs, run_count}
@@ -26,6 +26,11 @@ pub record IsOwnRun (file : ℕ) (run : Run) : Type 0 where
   pub inside : AreIn file run.tables
   pub few : length run.tables ≤ 131072
 
+-- The file has the run, which is cut as its records there say.
+pub record IsCutIn (host : HostState) (file : ℕ) (run : Run) : Type 0 where
+  pub each : AllByRecursion (IsTableOf (bytes_of host file)) run.tables
+  pub cut : IsCut (run_records (bytes_of host file) run.tables) run.tables
+
 -- how many records the closed layers have
 abbrev pub closed_count : Layers → ℕ
 closed_count layers = sum_by run_count (own_runs layers)
@@ -39,10 +44,11 @@ pub record WorksOn (old new : Pair) (count : ℕ) (becomes : Layered → Layered
   pub basis : new.layers.basis.items ≡ old.layers.basis.items
   pub file : new.layers.log.file ≡ old.layers.log.file
   pub log_limit : new.layers.log.limit ≡ old.layers.log.limit
-  -- each new run is the job's own
+  -- each new run is the job's own, cut as its records say
   pub more : List Run
   pub runs : own_runs new.layers ≡ own_runs old.layers ++ more
   pub more_own : AllByRecursion (IsOwnRun old.layers.log.file) more
+  pub more_cut : Told old.host (AllByRecursion (IsCutIn new.host old.layers.log.file) more)
   -- the closed layers get no more records than came in
   pub counted : closed_count new.layers + cond new.live new.layers.buffer.made 0 ≤ closed_count old.layers + (old.layers.buffer.made + count)
   -- a record costs the log at most 1,100 bytes, a piece that was refused counted, and those of the open layer not
@@ -52,7 +58,7 @@ pub record WorksOn (old new : Pair) (count : ℕ) (becomes : Layered → Layered
   pub past : 0 < new.layers.log.refused → old.layers.log.limit < new.layers.log.len + new.layers.log.refused
   pub added : Told old.host (IsTrue new.live → (l : Layered) → StandFor old.host old.layers l → StandFor new.host new.layers (becomes l))
   -- the bytes that the log's file had stay in their places
-  pub bytes : Told old.host (IsTrue new.live → take (length (bytes_of old.host old.layers.log.file)) (bytes_of new.host old.layers.log.file) ≡ bytes_of old.host old.layers.log.file)
+  pub bytes : Told old.host (take (length (bytes_of old.host old.layers.log.file)) (bytes_of new.host old.layers.log.file) ≡ bytes_of old.host old.layers.log.file)
 
 -- the records go to the end of the open layer, which closes where it has so many
 abbrev pub GoesOn : Pair → Pair → List Record → Type 0
@@ -76,6 +82,12 @@ pub record AddsRun (old new : Layers) : Type 0 where
   pub run : Run
   pub runs : own_runs new ≡ own_runs old ++ run ∷ []
   pub cut : IsCut (records_of old.buffer.held) run.tables
+
+-- Behind the runs there are none or more others, each of which is cut as its records in the log say.
+pub record AddsCut (host : HostState) (old new : Layers) : Type 0 where
+  pub more : List Run
+  pub runs : own_runs new ≡ own_runs old ++ more
+  pub cut : AllByRecursion (IsCutIn host old.log.file) more
 
 -- An open layer that has a record becomes a run.
 pub record AddsOpen (old new : Layers) : Type 0 where

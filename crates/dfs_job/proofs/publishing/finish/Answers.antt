@@ -1,6 +1,7 @@
 use Rattle.std.proofs.Common.{◌∙◌, arith}
 use Rattle.dfs_host.specs.Host.{bytes_of}
 use Rattle.dfs_change.specs.Sealing.{entry_of}
+use Rattle.dfs_change.proofs.Ended.{manifest_length}
 use Rattle.dfs_job.proofs.Sealing.{manifest_cost, ok_then, sealed_means, sealed_within, stored_count}
 use Rattle.dfs_job.proofs.publishing.finish.Goals as goal
 
@@ -18,6 +19,9 @@ returns-clause-changes g c = λ d tells stored.
 pub returns-clause-count : goal.returns-clause-count
 returns-clause-count g c = λ d tells stored.
     ok_then c.finish.result _ _ c.finish.ensures.count (λ sealed is. is ∙ stored_count (bytes_of (g.H.Host.state c.args.host.now) c.args.log.now.file) c.args.run.now d stored)
+
+pub returns-clause-len : goal.returns-clause-len
+returns-clause-len g c = ok_then c.finish.result _ _ c.finish.ensures.len (λ sealed is. is ∙ manifest_length c.args.run.now.tables)
 
 pub returns-clause-growth : goal.returns-clause-growth
 returns-clause-growth g c = λ tells.

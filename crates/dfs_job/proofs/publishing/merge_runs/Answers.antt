@@ -1,4 +1,4 @@
-use Rattle.std.proofs.Common.{inl, inr, ap, arith, length, map, subst}
+use Rattle.std.proofs.Common.{◌∙◌, inl, inr, ap, arith, length, map, refl, subst}
 use Rattle.std.proofs.lemmas.Result.{err_from_is_err_and}
 use Rattle.std.specs.List.{sum_by}
 use Rattle.dfs_host.specs.Host.{bytes_of}
@@ -77,8 +77,21 @@ returns-in_err-merge_parts-clause-passes g c = λ ls tells stored is.
     let stands = c.in-Ok.ensures.stands files file (map delta ls) (runs_are_sources files file rs ls c.requires.own stored) in
     elim (c.merge_parts.ensures.passes (map delta ls) tells stands (cc (is, c.in_err-merge_parts.was, p.1, p.2))) [
       | inl some ↦ inl some
-      | inr many ↦ inr (record { merged = λ one. c.requires.several (omega (arith, length-map c.args.runs.now (λ r. r.value), stored_lengths (files file) rs ls stored, length-map ls delta, one)); keys = c.in-Ok.compaction.keys; sorted = c.in-Ok.ensures.sorted; same = c.in-Ok.ensures.keys; many = many })
+      | inr many ↦ inr (record { merged = λ one. c.requires.several (omega (arith, length-map c.args.runs.now (λ r. r.value), stored_lengths (files file) rs ls stored, length-map ls delta, one)); tables = tables_below c.in-Ok.compaction.keys c.args.parts (map delta ls) c.args.parts; needed = record { keys = c.in-Ok.compaction.keys; sorted = c.in-Ok.ensures.sorted; same = c.in-Ok.ensures.keys; all = refl }; many = many })
     ]
+
+pub returns-clause-tables : goal.returns-clause-tables
+returns-clause-tables g c = λ ls tells stored.
+    let rs = map (λ r. r.value) c.args.runs.now in
+    let files = bytes_of (g.H.Host.state c.args.host.now) in
+    let file = c.args.log.now.file in
+    let stands = c.in-Ok.ensures.stands files file (map delta ls) (runs_are_sources files file rs ls c.requires.own stored) in
+    record {
+      keys = c.in-Ok.compaction.keys;
+      sorted = c.in-Ok.ensures.sorted;
+      same = c.in-Ok.ensures.keys;
+      all = ap length c.take.ensures.tables ∙ c.in_ok-merge_parts.ensures.needed (map delta ls) tells stands;
+    }
 
 pub returns-clause-too_many : goal.returns-clause-too_many
 returns-clause-too_many g c = λ ls tells stored passes.
@@ -86,11 +99,12 @@ returns-clause-too_many g c = λ ls tells stored passes.
     let files = bytes_of (g.H.Host.state c.args.host.now) in
     let file = c.args.log.now.file in
     let stands = c.in-Ok.ensures.stands files file (map delta ls) (runs_are_sources files file rs ls c.requires.own stored) in
-    let same = sorted_once (first_keys rs) passes.keys c.in-Ok.compaction.keys passes.sorted c.in-Ok.ensures.sorted passes.same c.in-Ok.ensures.keys in
+    let same = sorted_once (first_keys rs) passes.needed.keys c.in-Ok.compaction.keys passes.needed.sorted c.in-Ok.ensures.sorted passes.needed.same c.in-Ok.ensures.keys in
     absurd
     (omega (
       arith,
       passes.many,
+      passes.needed.all,
       ap (λ keys. tables_below keys c.args.parts (map delta ls) c.args.parts) same,
       c.in_ok-merge_parts.ensures.needed (map delta ls) tells stands,
       ap length c.take.ensures.tables,

@@ -10,8 +10,8 @@ use Rattle.dfs_change.specs.Identities.{AreFit}
 use Rattle.dfs_table.specs.Stored.{IsStored}
 use Rattle.dfs_view.specs.Layers.{AreStored, own_runs}
 use Rattle.dfs_compact.specs.Parts.{first_keys}
-use Rattle.dfs_job.specs.Stands.{Passes}
-use Rattle.dfs_job.proofs.Sealing.{joined_fit, only_count, only_stored, run_in, stored_lengths}
+use Rattle.dfs_job.specs.Stands.{MergeTo, Passes}
+use Rattle.dfs_job.proofs.Sealing.{joined_fit, ok_then, only_count, only_stored, only_tables, run_in, stored_lengths}
 use Rattle.dfs_job.proofs.publishing.seal.Goals as goal
 
 pub finish-requires-clause-of_job : goal.finish-requires-clause-of_job
@@ -54,6 +54,16 @@ returns-then-len-eq1-clause-growth g c = λ tells.
     let at = run_in rs 0 run (ap (map (λ r. r.value)) c.deref.ensures.value) c.run_at.ensures in
     let one : length rs ≡ 1 = omega (arith, c.if-len-eq1.true, c.len.ensures, length-map layers.runs.items (λ r. r.value)) in
     omega (arith, c.finish.ensures.growth tells, only_count rs run one at)
+
+pub returns-then-len-eq1-clause-tables : goal.returns-then-len-eq1-clause-tables
+returns-then-len-eq1-clause-tables g c = λ ls tells are.
+    let layers = c.args.layers.now in
+    let rs = own_runs layers in
+    let run = c.run_at.result.now in
+    let at = run_in rs 0 run (ap (map (λ r. r.value)) c.deref.ensures.value) c.run_at.ensures in
+    let one : length rs ≡ 1 = omega (arith, c.if-len-eq1.true, c.len.ensures, length-map layers.runs.items (λ r. r.value)) in
+    let alone : length (map delta ls) ≡ 1 = omega (arith, one, stored_lengths (bytes_of (g.H.Host.state c.args.host.now) layers.log.file) rs ls are.stored, length-map ls delta) in
+    ok_then c.finish.result _ _ c.finish.ensures.len (λ sealed is. record { tables = length run.tables; len = is; alone = λ same. sym (only_tables rs run one at); merged = λ several. absurd (several alone) })
 
 pub finish-requires-2-clause-of_job : goal.finish-requires-2-clause-of_job
 finish-requires-2-clause-of_job g c = λ tells.
@@ -102,3 +112,16 @@ returns-clause-too_many g c = λ ls tells are passes.
     let layers = c.args.layers.now in
     let stored = subst (λ xs. AreStored (bytes_of (g.H.Host.state c.args.host.now) layers.log.file) (map (λ r. r.value) xs) ls) (sym c.deref-2.ensures.value) are.stored in
     absurd (c.in_ok-run.ensures.too_many ls tells stored (subst (λ xs. Passes (first_keys (map (λ r. r.value) xs)) c.args.parts (map delta ls)) (sym c.deref-2.ensures.value) passes))
+
+pub returns-clause-tables : goal.returns-clause-tables
+returns-clause-tables g c = λ ls tells are.
+    let layers = c.args.layers.now in
+    let files = bytes_of (g.H.Host.state c.args.host.now) layers.log.file in
+    let stored = subst (λ xs. AreStored files (map (λ r. r.value) xs) ls) (sym c.deref-2.ensures.value) are.stored in
+    ok_then c.finish-2.result _ _ c.finish-2.ensures.len
+    (λ sealed is. record {
+      tables = length c.in_ok-run.run'.tables;
+      len = is;
+      alone = λ one. absurd (omega (arith, c.if-len-eq1.false, c.len.ensures, length-map layers.runs.items (λ r. r.value), stored_lengths files (own_runs layers) ls are.stored, length-map ls delta, one));
+      merged = λ several. subst (λ xs. MergeTo (first_keys (map (λ r. r.value) xs)) c.args.parts (map delta ls) (length c.in_ok-run.run'.tables)) c.deref-2.ensures.value (c.in_ok-run.ensures.tables ls tells stored);
+    })

@@ -49,3 +49,9 @@ returns-in_err-answer-clause-short g c = λ j tells stands is.
       c.requires.sound.fit.log_bytes,
       ap (λ (s : Settings). s.log_bytes) stands.settings,
     )
+
+pub returns-clause-cut : goal.returns-clause-cut
+returns-clause-cut g c = λ tells. let on = c.in_ok-answer.ensures.applied.went_on in record { more = on.more; runs = on.runs; cut = on.more_cut tells }
+
+pub returns-in_err-answer-clause-cut : goal.returns-in_err-answer-clause-cut
+returns-in_err-answer-clause-cut g c = λ tells. let on = c.in_err-answer.ensures.applied.went_on in record { more = on.more; runs = on.runs; cut = on.more_cut tells }

@@ -7,12 +7,14 @@ use Rattle.dfs_record.specs.Delta.{delta}
 use Rattle.dfs_record.specs.KeyMap.{len}
 use Rattle.dfs_change.specs.Meant.{log_meaning}
 use Rattle.dfs_change.specs.Sealing.{entry_of}
+use Rattle.dfs_compact.specs.Parts.{first_keys}
+use Rattle.dfs_view.specs.Layers.{own_runs}
 use Rattle.dfs_view.specs.Lists.{flushed}
 use Rattle.dfs_view.specs.View.{closed_count}
 use Rattle.dfs_job.specs.declared.settings.Settings.{Settings}
 use Rattle.dfs_job.proofs.Keeping.{account_short, too_many_short}
-use Rattle.dfs_job.specs.Stands.{Passes, own_count}
-use Rattle.dfs_job.proofs.Flushed.{firsts_flushed, flushed_sealable}
+use Rattle.dfs_job.specs.Stands.{Passes, TellsOf, flushed_tables, own_count}
+use Rattle.dfs_job.proofs.Flushed.{firsts_flushed, flushed_sealable, tables_flushed}
 use Rattle.dfs_job.proofs.Layers.{flushed_closed}
 use Rattle.dfs_job.proofs.Parting.{passes_more}
 use Rattle.dfs_job.proofs.job.Job.publish_tables.Goals as goal
@@ -48,6 +50,20 @@ returns-clause-count g c = λ j tells stands.
     let now = of.works.added tells refl j.layers stands.layers in
     let are = flushed_sealable mid c.flush.new.layers j file stands.fair now in
     subst (λ d. IfOk c.seal.result (λ sealed. sealed.count ≡ len d)) (ap delta (flushed_closed j.layers)) (c.seal.ensures.count ls (of.cause.tells ∙ tells) are)
+
+pub returns-clause-tables : goal.returns-clause-tables
+returns-clause-tables g c = λ j tells stands.
+    let of = c.in_ok-flush.ensures in
+    let old = c.args.self.now in
+    let mid = g.H.Host.state c.flush.new.host in
+    let file : c.flush.new.layers.log.file ≡ j.ids.job = of.works.file ∙ c.requires.sound.fit.file ∙ ap (λ (n : _). n.job) (sym stands.ids) in
+    let ls = (flushed j.layers).closed in
+    let now = of.works.added tells refl j.layers stands.layers in
+    let are = flushed_sealable mid c.flush.new.layers j file stands.fair now in
+    let firsts = firsts_flushed (g.H.Host.state c.args.host.now) mid old.layers c.flush.new.layers j.layers stands.layers now.closed of.cut in
+    subst (λ ks. IfOk c.seal.result (λ sealed. TellsOf ks (flushed_tables old j) old.settings.parts (map delta ls) sealed.len)) firsts
+    (subst (λ n. IfOk c.seal.result (λ sealed. TellsOf (first_keys (own_runs c.flush.new.layers)) n old.settings.parts (map delta ls) sealed.len)) (tables_flushed (g.H.Host.state c.args.host.now) old.layers c.flush.new.layers j.layers stands.layers of.cut)
+    (c.seal.ensures.tables ls (of.cause.tells ∙ tells) are))
 
 pub returns-clause-only : goal.returns-clause-only
 returns-clause-only g c =

@@ -53,7 +53,7 @@ impl<'a> Block<'a> {
     }
 
     /// The block that the bytes are, and the value of its record with the key, if it has one. `None` exactly where they are no
-    /// block. Each record is decoded once.
+    /// block.
     pub fn find_in(bytes: &'a [u8], key: KeyRef<'_>) -> Option<(Block<'a>, Option<ValueRef<'a>>)>
         ensures found { IfSome result (λ p. IsBlock bytes.entry.now p.0) }
         // They are the block of no other list.

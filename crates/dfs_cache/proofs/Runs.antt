@@ -1,16 +1,16 @@
 -- What is found after runs of calls.
-use Rattle.std.proofs.Common.{◌≡◌, ℕ, zero, suc, ◌+◌, ◌<◌, ◌≤◌, Bool, true, false, cond, List, [], ◌∷◌, fold, length, take, Option, Some, None, IfSome, refl, sym, ap, ◌∙◌, arith}
+use Rattle.std.proofs.Common.{◌≡◌, ℕ, zero, suc, ◌+◌, ◌<◌, ◌≤◌, Bool, true, false, cond, List, [], ◌∷◌, fold, length, take, Option, Some, None, refl, sym, ap, ◌∙◌, arith}
 use Rattle.std.specs.List.{AllByRecursion}
 use Rattle.std.specs.Option.{option_map_or}
 use Rattle.std.specs.Map.{lookup, lookup_entry, remove_entry}
-use Rattle.std.proofs.lemmas.Bool.{cond_both, cond-false}
+use Rattle.std.proofs.lemmas.Bool.{cond-false}
 use Rattle.std.proofs.lemmas.List.{take-take}
 use Rattle.std.proofs.lemmas.Map.{lookup-remove_entry}
 use Rattle.lru.proofs.CallerLemmas.{Contains-lookup_entry}
 use Rattle.dfs_record.specs.declared.Key.{Key}
 use Rattle.dfs_record.specs.declared.Entry.{Entry}
 use Rattle.dfs_cache.specs.Latest.{Latest, Pair, put_first, same_key}
-use Rattle.dfs_cache.specs.Runs.{getting, putting, forgetting, Call, after, Leaves, StaysFound, IsForgotten, GettingChangesNothing, IsFound, StaysValid, FoundIsValid}
+use Rattle.dfs_cache.specs.Runs.{getting, putting, forgetting, Call, after, Leaves, StaysFound, IsForgotten, GettingChangesNothing}
 use Rattle.dfs_cache.proofs.Keys.{keys_alike, keys_one}
 
 Finds : Key → Option Entry → List Pair → Type 0
@@ -130,33 +130,3 @@ getting_changes_nothing l key other is = by (lookup_entry (same_key key) l.pairs
             cond-false _ _ _ (ap (same_key other) (sym here) ∙ apart)
             ∙ lookup-remove_entry keys_alike (same_key key) (keys_alike.congr key) other l.pairs is.0
             ∙ cond-false _ _ _ (keys_alike.symm key other ∙ apart)
-
--- valid pairs
-off_valid : (test : Key → Bool) (es : List Pair) → AllByRecursion (λ (e : Pair). IsFound e.1) es → AllByRecursion (λ (e : Pair). IsFound e.1) (remove_entry test es)
-off_valid test [] all = tt
-off_valid test (e ∷ es) all = cond_both (test e.0) es (e ∷ remove_entry test es) (λ l. AllByRecursion (λ (e : Pair). IsFound e.1) l) (λ _. all.1) (λ _. (all.0, off_valid test es all.1))
-
-kept_valid : (n : ℕ) (es : List Pair) → AllByRecursion (λ (e : Pair). IsFound e.1) es → AllByRecursion (λ (e : Pair). IsFound e.1) (take n es)
-kept_valid zero es all = tt
-kept_valid (suc n) [] all = tt
-kept_valid (suc n) (e ∷ es) all = (all.0, kept_valid n es all.1)
-
-entry_valid : (test : Key → Bool) (es : List Pair) → AllByRecursion (λ (e : Pair). IsFound e.1) es → IfSome (lookup_entry test es) (λ e. IsFound e.1)
-entry_valid test [] all = tt
-entry_valid test (e ∷ es) all = cond_both (test e.0) (Some e) (lookup_entry test es) (λ o. IfSome o (λ e. IsFound e.1)) (λ _. all.0) (λ _. entry_valid test es all.1)
-
-forward_valid : (key : Key) (es : List Pair) (o : Option Pair) → IfSome o (λ e. IsFound e.1) → AllByRecursion (λ (e : Pair). IsFound e.1) es → AllByRecursion (λ (e : Pair). IsFound e.1) (forward key es o)
-forward_valid key es None found all = all
-forward_valid key es (Some e) found all = (found, off_valid (same_key key) es all)
-
-pub stays_valid : StaysValid
-stays_valid l (getting key) puts valid = forward_valid key l.pairs _ (entry_valid (same_key key) l.pairs valid) valid
-stays_valid l (putting key found) puts valid = kept_valid l.capacity ((key, found) ∷ remove_entry (same_key key) l.pairs) (puts, off_valid (same_key key) l.pairs valid)
-stays_valid l (forgetting key) puts valid = off_valid (same_key key) l.pairs valid
-
-pub found_valid : FoundIsValid
-found_valid l key valid = by l.pairs valid
-  where
-    by : (es : List Pair) → AllByRecursion (λ (e : Pair). IsFound e.1) es → IfSome (lookup (same_key key) es) IsFound
-    by [] all = tt
-    by (e ∷ es) all = cond_both (same_key key e.0) (Some e.1) (lookup (same_key key) es) (λ o. IfSome o IsFound) (λ _. all.0) (λ _. by es all.1)

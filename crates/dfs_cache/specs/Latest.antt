@@ -1,12 +1,13 @@
 -- The latest look-ups: pairs of a key and what was found there, the latest first.
-use Rattle.std.specs.Prelude.{ℕ, ◌≤◌, Bool, ◌&&◌, ◌==◌, List, ◌∷◌, length, take, Option, refl}
-use Rattle.std.specs.List.{IsDistinct}
+use Rattle.std.specs.Prelude.{ℕ, ◌≤◌, Bool, ◌&&◌, ◌==◌, List, ◌∷◌, length, take, Option, IfSome, refl}
+use Rattle.std.specs.List.{AllByRecursion, IsDistinct}
 use Rattle.std.specs.Option.{option_map_or}
 use Rattle.std.specs.Map.{keys_of, lookup_entry, remove_entry}
 use Rattle.std.specs.Str.{bytes_eq}
 use Rattle.std.specs.Coded.{Coded, code_by, coded×, coded_list, coded_option, coded_ℕ}
 use Rattle.dfs_record.specs.Key.{key_code}
 use Rattle.dfs_record.specs.Namespace.{entry_code}
+use Rattle.dfs_record.specs.Record.{IsEntry}
 use Rattle.dfs_record.specs.declared.DirId.{DirId}
 use Rattle.dfs_record.specs.declared.Key.{Key}
 use Rattle.dfs_record.specs.declared.Entry.{Entry}
@@ -32,9 +33,16 @@ same_dir a b = a.job == b.job && a.counter == b.counter
 abbrev pub same_key : Key → Key → Bool
 same_key a b = same_dir a.parent b.parent && bytes_eq a.name b.name
 
--- no key stands twice, the list is within the capacity, and there is room for a pair
+-- what was found, if anything, is valid
+abbrev pub IsFound : Option Entry → Type 0
+IsFound found = IfSome found IsEntry
+
+abbrev pub AreValid : List Pair → Type 0
+AreValid pairs = AllByRecursion (λ (pair : Pair). IsFound pair.1) pairs
+
+-- no key stands twice, the list is within the capacity, there is room for a pair, and what was found is valid
 abbrev pub IsLatest : Latest → Type 0
-IsLatest l = IsDistinct same_key (keys_of l.pairs) × (length l.pairs ≤ l.capacity) × (1 ≤ l.capacity)
+IsLatest l = IsDistinct same_key (keys_of l.pairs) × (length l.pairs ≤ l.capacity) × (1 ≤ l.capacity) × AreValid l.pairs
 
 -- the key's pair goes off
 abbrev pub taken_off : Key → Latest → Latest

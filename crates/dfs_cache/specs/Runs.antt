@@ -1,11 +1,10 @@
 -- Runs of calls, and what is found after them.
-use Rattle.std.specs.Prelude.{◌≡◌, ◌<◌, false, if◌then◌else◌, List, fold, length, Option, Some, None, IfSome}
+use Rattle.std.specs.Prelude.{◌≡◌, ◌<◌, false, if◌then◌else◌, List, fold, length, Option, Some, None}
 use Rattle.std.specs.List.{AllByRecursion}
 use Rattle.std.specs.Map.{lookup}
 use Rattle.dfs_record.specs.declared.Key.{Key}
 use Rattle.dfs_record.specs.declared.Entry.{Entry}
-use Rattle.dfs_record.specs.Record.{IsEntry}
-use Rattle.dfs_cache.specs.Latest.{Latest, Pair, IsLatest, brought_forward, put_first, same_key, taken_off}
+use Rattle.dfs_cache.specs.Latest.{Latest, IsLatest, brought_forward, put_first, same_key, taken_off}
 
 pub data Call : Type 0 where
   getting : Key → Call
@@ -37,24 +36,3 @@ IsForgotten = (l : Latest) (key other : Key) → IsLatest l
 -- a look-up changes what is found at no key
 abbrev pub GettingChangesNothing : Type 0
 GettingChangesNothing = (l : Latest) (key other : Key) → IsLatest l → lookup (same_key other) (brought_forward key l).pairs ≡ lookup (same_key other) l.pairs
-
--- what was found, if anything, is valid
-abbrev pub IsFound : Option Entry → Type 0
-IsFound found = IfSome found IsEntry
-
-abbrev pub AreValid : Latest → Type 0
-AreValid l = AllByRecursion (λ (pair : Pair). IsFound pair.1) l.pairs
-
--- the call puts nothing that is not valid
-abbrev pub PutsValid : Call → Type 0
-PutsValid (getting key) = Unit {0}
-PutsValid (putting key found) = IsFound found
-PutsValid (forgetting key) = Unit {0}
-
--- where nothing but valid entries is put, nothing else is there
-abbrev pub StaysValid : Type 0
-StaysValid = (l : Latest) (call : Call) → PutsValid call → AreValid l → AreValid (after l call)
-
--- and nothing else is found
-abbrev pub FoundIsValid : Type 0
-FoundIsValid = (l : Latest) (key : Key) → AreValid l → IfSome (lookup (same_key key) l.pairs) IsFound

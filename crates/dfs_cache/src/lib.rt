@@ -2,16 +2,17 @@
 //!
 //! The layer above sees the list of its pairs, each a key and what was found there, the latest first. No key stands in
 //! it twice, and it is never longer than its capacity, which no call changes. The pairs that go are those used longest
-//! ago. A look-up goes by a hash of its key, whose seed is fixed, and takes no memory.
+//! ago. What is put has to be valid, and so is what is found. A look-up goes by a hash of its key, whose seed is fixed,
+//! and takes no memory.
 //!
 //! The definitions stand in `specs/`: the list and what each call makes of it in `Latest`, what is found after runs of
 //! calls in `Runs`, and what a list ends as after a look-up in `Ends`.
 #![tactic(auto)]
 
-ghost use Rattle.std.specs.Prelude.{◌≡◌, ◌≤◌, [], option_copied, IfOk, OnOk, OnErr};
+ghost use Rattle.std.specs.Prelude.{◌≡◌, ◌≤◌, [], option_copied, IfOk, IfSome, OnOk, OnErr};
 ghost use Rattle.std.specs.Borrow.{sem};
 ghost use Rattle.std.specs.Map.{lookup};
-ghost use Rattle.dfs_cache.specs.Latest.{latest, brought_forward, put_first, taken_off, same_key, IsLatest};
+ghost use Rattle.dfs_cache.specs.Latest.{latest, brought_forward, put_first, taken_off, same_key, IsFound, IsLatest};
 ghost use Rattle.dfs_cache.specs.Ends.{ends_as};
 
 mod laws;
@@ -57,6 +58,7 @@ impl Lookups {
     pub fn get(&mut self, key: &Key) -> Option<&Option<Entry>>
         ensures* forward { sem 𝓛 (ends_as self.entry (brought_forward key.now self.old)) }
         ensures found { option_copied result ≡ lookup (same_key key.now) self.old.pairs }
+        ensures valid { IfSome (option_copied result) IsFound }
         ensures latest { IsLatest self.old }
     {
         self.cache.get(key)
@@ -65,6 +67,7 @@ impl Lookups {
     /// Puts the pair at the front in place of the key's older pair. The last pair goes where the list would pass the
     /// capacity.
     pub fn put(&mut self, key: Key, found: Option<Entry>) -> Result<(), NoMemory>
+        requires valid { IsFound found }
         ensures front { OnOk result (self.new ≡ put_first key found self.old) }
         ensures unchanged { OnErr result (self.new ≡ self.old) }
         ensures latest { IsLatest self.old }

@@ -1,3 +1,5 @@
+ghost use Rattle.dfs_cache.specs.Latest.{IsFound};
+
 use super::*;
 use dfs_record::{DirId, Name};
 use std::test::*;
@@ -18,12 +20,15 @@ fn root_key(alloc: Global, name: u8) -> Result<Key, Fail> {
     })
 }
 
-fn directory(mode: u16) -> Entry {
-    Entry::Dir {
+fn directory(mode: Option<u16>) -> Option<Entry>
+    ensures { IsFound result }
+{
+    let mode = mode?;
+    Some(Entry::Dir {
         id: DirId { job: 1, counter: 1 },
-        mode,
+        mode: mode.min(0o7777),
         time: 0,
-    }
+    })
 }
 
 fn mode_of(found: &Option<Entry>) -> Option<u16> {
@@ -62,7 +67,7 @@ fn the_two_latest_pairs_stay(rt: HostRuntime) -> Result<(), Fail> {
     for (name, call) in calls {
         let key = root_key(alloc, name)?;
         match call {
-            Call::Put(mode) => lookups.put(key, mode.map(directory))?,
+            Call::Put(mode) => lookups.put(key, directory(mode))?,
             Call::Get(seen) => assert_eq!(rt; lookups.get(&key).map(mode_of), seen),
             Call::Forget => lookups.forget(&key),
         }

@@ -81,17 +81,11 @@ begins_above fs key n f are point here above i at =
 
 -- ---- the fences that meet a range
 
-pub from_open : (fs : List Fence) → IsFromPoint fs None 0
-from_open fs = ((λ k d le lt. absurd (omega (arith, lt))), (λ k d le lt. refl))
-
 pub from_key : (fs : List Fence) (low : Key) (n : ℕ) → IsEndsPoint fs low n → IsFromPoint fs (Some low) n
 from_key fs low n point = ((λ k d le lt. ap not (point.0 k d le lt)), (λ k d le lt. ap not (point.1 k d le lt)))
 
 pub to_key : (fs : List Fence) (high : Key) (n : ℕ) → IsBeginsPoint fs high n → IsToPoint fs (Some high) n
 to_key fs high n point = point
-
-pub to_open : (fs : List Fence) → IsToPoint fs None (length fs)
-to_open fs = ((λ k d le lt. refl), (λ k d le lt. absurd (omega (arith, le, lt))))
 
 not_from : (b : Bool) → not b ≡ false → b ≡ true
 not_from true e = refl

@@ -2,7 +2,7 @@
 //!
 //! `Fences` is seen as the list of its fences, which rise and do not overlap. `Fences::read` answers a list exactly where
 //! the bytes are its index, and `None` exactly where they are the index of no list; `write` appends the one spelling.
-//! `find` answers the one fence that covers a key, and `range` those that meet a range of keys, both by binary search.
+//! `find` answers the one fence that covers a key, and `range` those that meet a range of keys.
 //!
 //! The definitions stand in `specs/`: which bytes are the index of which fences in `Index`, which fence covers a key in
 //! `Cover`, and which fences meet a range in `Ranges`.

@@ -20,7 +20,7 @@ pub enum Fault {
     /// A call on a file failed.
     #[error("Disk")]
     Disk,
-    /// A log would pass its limit.
+    /// A log would pass its limit, or a run would have too many tables.
     #[error("LogFull")]
     LogFull,
     /// The block at place `at` of the file, read again, was not the block that its index states.

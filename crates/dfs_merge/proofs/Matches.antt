@@ -1,5 +1,5 @@
 -- The matches between sources.
-use Rattle.std.proofs.Common.{◌≡◌, ℕ, ◌<◌, ◌≤◌, inl, inr, Bool, true, false, cond, T, List, [], ◌∷◌, length, get_or, refl, sym, ap, subst, ◌∙◌, arith, nat_lt, ltb-true, ltb-false}
+use Rattle.std.proofs.Common.{◌≡◌, ℕ, ◌<◌, ◌≤◌, inl, inr, Bool, true, false, cond, List, [], ◌∷◌, length, get_or, refl, sym, ap, subst, ◌∙◌, arith, nat_lt, ltb-true, ltb-false}
 use Rattle.std.specs.Prelude.{Option}
 use Rattle.std.specs.Ordering.{is_lt, is_gt, is_eq, ordering_reverse}
 use Rattle.std.specs.Cmp.{upto, tied_itself}
@@ -16,10 +16,7 @@ use Rattle.dfs_merge.specs.Rank.{Rank, rank, rank_by, rank_at, rank_cmp, better_
 use Rattle.dfs_merge.specs.Tree.{winner_of, IsTournament, AreReplayed, ArePassedIn}
 use Rattle.dfs_merge.specs.Laws.{AreLists}
 use Rattle.dfs_merge.proofs.Firsts.{rank_total, stands}
-use Rattle.dfs_merge.proofs.Passing.{others_kept, others_join, source_same, source_len, len_source}
-
-true_not_false : true ≡ false → ⊥
-true_not_false e = subst T e tt
+use Rattle.dfs_merge.proofs.Passing.{others_kept, others_join, source_same, source_len, len_source, true_not_false}
 
 -- ---- the better of two
 

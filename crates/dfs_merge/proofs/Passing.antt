@@ -51,7 +51,7 @@ without_higher k x xs rise l =
 head_same : (r x : Record) (rs xs : List Record) → r ∷ rs ≡ x ∷ xs → r ≡ x
 head_same r x rs xs e = cc
 
-true_not_false : true ≡ false → ⊥
+pub true_not_false : true ≡ false → ⊥
 true_not_false e = subst T e tt
 
 -- a list without a key doesn't begin with it
@@ -62,24 +62,6 @@ not_first k (r ∷ rs) x xs e = by (eq_by_cmp key_cmp k r.key) refl e (not_first
     by : (b : Bool) → eq_by_cmp key_cmp k r.key ≡ b → cond (not b) (r ∷ without k rs) (without k rs) ≡ x ∷ xs → (without k rs ≡ x ∷ xs → eq_by_cmp key_cmp k x.key ≡ false) → eq_by_cmp key_cmp k x.key ≡ false
     by true f e ih = ih e
     by false f e ih = ap (λ y. eq_by_cmp key_cmp k y.key) (sym (head_same r x (without k rs) xs e)) ∙ f
-
-ne_of : (j n : ℕ) → (j ≡ n → ⊥) → (j < n) ⊎ (n < j)
-ne_of j n h = by (nat_lt j n) refl
-  where
-    by : (b : Bool) → nat_lt j n ≡ b → (j < n) ⊎ (n < j)
-    by true e = inl (ltb-true j n e)
-    by false e = by' (nat_lt n j) refl
-      where
-        by' : (b : Bool) → nat_lt n j ≡ b → (j < n) ⊎ (n < j)
-        by' true f = inr (ltb-true n j f)
-        by' false f = absurd (h (omega (arith, ltb-false j n e, ltb-false n j f)))
-
-below_or : (j n : ℕ) → j < n + 1 → (j ≡ n → ⊥) → j < n
-below_or j n l h = by (ne_of j n h)
-  where
-    by : (j < n) ⊎ (n < j) → j < n
-    by (inl m) = m
-    by (inr m) = absurd (omega arith)
 
 pub source_len : {S : Type 0} (rest : S → List Record) (unread : S → ℕ) (bound : S → Option Key) (ss : List S) (i : ℕ) → i < length ss → i < length (sources rest unread bound ss)
 source_len rest unread bound [] i l = absurd (omega arith)

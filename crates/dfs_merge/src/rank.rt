@@ -67,7 +67,7 @@ pub(crate) fn better<C: Records>(sources: &[C], a: usize, b: usize) -> usize
     if compare(sources, b, a).is_lt() { b } else { a }
 }
 
-/// Passes the first record of a source that is not the first one and has its key, and answers whether it did.
+/// Passes the first record of a source that is not the first one and has its key. Where the answer is no, nothing was passed.
 pub(crate) fn pass_same<C: Records>(sources: &mut Vec<C>, index: usize, first: usize) -> bool
     ensures passed { IsStep C.rest C.unread C.bound C.Comes index first sources.old.items sources.new.items }
     ensures same { IsFalse result → sources.new.items ≡ sources.old.items }

@@ -1,4 +1,4 @@
-use Rattle.dfs_cache.proofs.Runs.{stays_found, is_forgotten, getting_changes_nothing, stays_valid, found_valid}
+use Rattle.dfs_cache.proofs.Runs.{stays_found, is_forgotten, getting_changes_nothing}
 use Rattle.dfs_cache.proofs.laws.what_is_found.Goals as goal
 
 pub returns-clause-put : goal.returns-clause-put
@@ -9,9 +9,3 @@ returns-clause-got c = getting_changes_nothing
 
 pub returns-clause-forgotten : goal.returns-clause-forgotten
 returns-clause-forgotten c = is_forgotten
-
-pub returns-clause-valid : goal.returns-clause-valid
-returns-clause-valid c = stays_valid
-
-pub returns-clause-valid_found : goal.returns-clause-valid_found
-returns-clause-valid_found c = found_valid

@@ -55,3 +55,14 @@ returns-clause-cut g c = λ tells. let on = c.in_ok-answer.ensures.applied.went_
 
 pub returns-in_err-answer-clause-cut : goal.returns-in_err-answer-clause-cut
 returns-in_err-answer-clause-cut g c = λ tells. let on = c.in_err-answer.ensures.applied.went_on in record { more = on.more; runs = on.runs; cut = on.more_cut tells }
+
+pub returns-clause-room : goal.returns-clause-room
+returns-clause-room g c = λ j tells stands room.
+    let applied = c.in_ok-answer.ensures.applied in
+    applied.room (omega (arith, room, ap length (applied.whole tells), ap (λ (o : Outcome). length o.records) (same_outcome (g.H.Host.state c.args.host.now) c.args.self.now j c.args.op.now stands)))
+
+pub returns-in_err-answer-clause-room : goal.returns-in_err-answer-clause-room
+returns-in_err-answer-clause-room g c = λ j tells stands room.
+    let applied = c.in_err-answer.ensures.applied in
+    let all = (outcome (layers_map (g.H.Host.state c.args.host.now) c.args.self.now.layers) c.args.self.now.ids c.args.op.now).records in
+    applied.room (omega (arith, room, prefix_few applied.records all (applied.first tells), ap (λ (o : Outcome). length o.records) (same_outcome (g.H.Host.state c.args.host.now) c.args.self.now j c.args.op.now stands)))

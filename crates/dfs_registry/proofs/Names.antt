@@ -1,12 +1,11 @@
--- Publications found by name, and jobs found in a set.
-use Rattle.std.proofs.Common.{◌≡◌, ℕ, Bool, true, false, cond, ◌||◌, List, [], ◌∷◌, ◌++◌, Option, None, Some, is_some, map, max, nat_eq, refl, subst, sym, ◌∙◌, ap}
+-- Publications found by name.
+use Rattle.std.proofs.Common.{◌≡◌, ℕ, Bool, true, false, cond, ◌||◌, List, [], ◌∷◌, ◌++◌, Option, None, Some, is_some, map, max, refl, subst, sym, ◌∙◌, ap}
 use Rattle.std.specs.List.{find, list_any}
 use Rattle.std.specs.Map.{values_of, lookup}
 use Rattle.std.specs.Str.{bytes_eq}
 use Rattle.std.proofs.lemmas.List.{map-append}
-use Rattle.std.proofs.lemmas.List.Folds.{list_any-append}
 use Rattle.dfs_registry.specs.declared.listed.Listed.{Listed}
-use Rattle.dfs_registry.specs.Body.{has_name, has_job, lists_name, lists_job, greatest_job}
+use Rattle.dfs_registry.specs.Body.{has_name, lists_name, greatest_job}
 use Rattle.dfs_registry.specs.Seen.{AreNamed, IsIndexed}
 use Rattle.dfs_registry.proofs.Jobs.{greatest-push}
 
@@ -51,16 +50,6 @@ named_push es name b named is =
     ∙ ap (λ (l : List (List ℕ)). l ++ name ∷ []) named
     ∙ ap (λ (k : List ℕ). map (λ (x : Listed). x.name) (values_of es) ++ k ∷ []) is
     ∙ sym (ap (λ (l : List Listed). map (λ (x : Listed). x.name) l) (values_of-push es name b) ∙ map-append (λ (x : Listed). x.name) (values_of es) (b ∷ []))
-
--- one publication more has its job
-pub lists_job-push : (bs : List Listed) (b : Listed) (job : ℕ) → lists_job (bs ++ b ∷ []) job ≡ cond (nat_eq b.job job) true (lists_job bs job)
-lists_job-push bs b job = list_any-append (has_job job) bs (b ∷ []) ∙ turned (lists_job bs job) (nat_eq b.job job)
-  where
-    turned : (s t : Bool) → (s || (t || false)) ≡ cond t true s
-    turned true true = refl
-    turned true false = refl
-    turned false true = refl
-    turned false false = refl
 
 pub indexed_push : {es new : List (List ℕ × Listed)} {job greatest : ℕ} {name : List ℕ} (b : Listed) → IsIndexed es job → name ≡ b.name
     → new ≡ es ++ (name, b) ∷ [] → greatest ≡ max job b.job → IsIndexed new greatest

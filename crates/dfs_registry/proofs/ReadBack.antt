@@ -1,10 +1,9 @@
--- What is read was written, and what is written is read.
-use Rattle.std.proofs.Common.{◌≡◌, ℕ, ◌+◌, Bool, true, false, cond, List, [], ◌∷◌, ◌++◌, take, drop, refl, sym, ◌∙◌, ap, append_assoc}
+-- What is read was written.
+use Rattle.std.proofs.Common.{◌≡◌, ℕ, ◌+◌, Bool, true, false, cond, List, ◌++◌, take, drop, refl, sym, ◌∙◌, ap, append_assoc}
 use Rattle.std.specs.Prelude.{slice_index, Some, None}
 use Rattle.std.proofs.lemmas.List.{take-append-drop}
 use Rattle.dfs_registry.specs.Body.{body, fields, has_body, read_body}
-use Rattle.dfs_registry.specs.Reading.{BodiesAreSpelled, ListsReadBack}
-use Rattle.dfs_registry.proofs.Gates.{stands_for, shut_gate}
+use Rattle.dfs_registry.specs.Reading.{BodiesAreSpelled}
 use Rattle.dfs_registry.proofs.Parsing.{whole, spelled_by, piece_fits}
 
 passed : {A : Type 0} (test : Bool) (x y : A) → cond test (Some x) None ≡ Some y → (test ≡ true) × (x ≡ y)
@@ -23,6 +22,3 @@ are_spelled b bytes are read =
           ∙ ap (λ (l : List ℕ). l ++ drop 92 bytes) (sym (take-append-drop size front) ∙ ap (λ (l : List ℕ). l ++ drop size front) spelled)
           ∙ append_assoc (body b) (drop size front) (drop 92 bytes),
     )
-
-pub lists_back : ListsReadBack
-lists_back bs is = stands_for bs (0 ∷ []) is (shut_gate 0 [] (λ no. absurd (cc no)))

@@ -12,9 +12,9 @@ use Rattle.dfs_registry.proofs.Commit.{rests}
 pub standing_list : (host : HostState) (registry : RegistryState) → RegistryStands host registry → reading (bytes_of host 0) ≡ listing registry.entries
 standing_list host registry is = ap reading is.file ∙ rests registry.entries is.listing
 
--- Every image now has the registry's list: so after a commit the publication is in it.
-pub standing_images : (host : HostState) (registry : RegistryState) → RegistryStands host registry → (image : Image) → LeavesNow host image → reading (image.files 0) ≡ listing registry.entries
-standing_images host registry is image leaves = ap reading (left_when_settled is.settled (image.files 0) (leaves.files 0)) ∙ standing_list host registry is
-
 pub leaves_list : (host : HostState) (bs : List Listed) → IsSettled (host.disk.files 0) → bytes_of host 0 ≡ at_rest bs → IsListing bs → LeavesList host bs
 leaves_list host bs settled file is image leaves = ap reading (left_when_settled settled (image.files 0) (leaves.files 0)) ∙ ap reading file ∙ rests bs is
+
+-- Every image now has the registry's list: so after a commit the publication is in it.
+pub standing_images : (host : HostState) (registry : RegistryState) → RegistryStands host registry → (image : Image) → LeavesNow host image → reading (image.files 0) ≡ listing registry.entries
+standing_images host registry is = leaves_list host registry.entries is.settled is.file is.listing

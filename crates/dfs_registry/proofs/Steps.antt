@@ -1,5 +1,5 @@
 -- What a crash leaves of file 0 in each step of opening.
-use Rattle.std.proofs.Common.{◌≡◌, ℕ, zero, suc, inl, inr, ◌+◌, ◌-◌, ◌<◌, ◌≤◌, false, List, [], ◌∷◌, ◌++◌, length, take, drop, refl, sym, ◌∙◌, ap, subst, arith, length-append, length-take, length-drop}
+use Rattle.std.proofs.Common.{◌≡◌, ℕ, zero, suc, inl, inr, ◌+◌, ◌-◌, ◌<◌, ◌≤◌, false, List, [], ◌∷◌, ◌++◌, length, take, drop, refl, sym, ◌∙◌, ap, subst, arith, length-take, length-drop}
 use Rattle.std.specs.Prelude.{IsTrue, Result, ◌==◌}
 use Rattle.std.proofs.lemmas.List.{take_at, get_or-take}
 use Rattle.std.specs.Str.{bytes_eq}
@@ -54,9 +54,6 @@ module _ (bs : List Listed) (is : IsListing bs) (old : List ℕ) (gate : ℕ) (h
   unfolding front
   whole = ends.file
 
-  pub gate_inside : gate ≤ length old
-  gate_inside = omega (arith, ap length whole, length-append front ends.ending, length-front)
-
   pub stands : registry old ≡ listing bs
   stands = ap registry ends.file ∙ stands_for bs ends.ending is ends.shut
 
@@ -70,9 +67,6 @@ module _ (bs : List Listed) (is : IsListing bs) (old : List ℕ) (gate : ℕ) (h
 
   is_front : (mid : List ℕ) → mid ≡ take gate old → mid ≡ front
   is_front mid cut = cut ∙ ap (take gate) whole ∙ take_at front ends.ending gate length-front
-
-  pub close_inside : (mid : List ℕ) → mid ≡ take gate old → gate ≤ length mid
-  close_inside mid cut = omega (arith, ap length (is_front mid cut), length-front)
 
   pub close_second : (mid : List ℕ) → mid ≡ take gate old → (c : List ℕ) → Torn gate 1 mid c → registry c ≡ listing bs
   unfolding front

@@ -1,5 +1,6 @@
 use Rattle.dfs_registry.proofs.Bodies.{reads_back}
-use Rattle.dfs_registry.proofs.ReadBack.{are_spelled, lists_back}
+use Rattle.dfs_registry.proofs.Commit.{rests}
+use Rattle.dfs_registry.proofs.ReadBack.{are_spelled}
 use Rattle.dfs_registry.proofs.laws.what_is_written_is_read.Goals as goal
 
 pub returns-clause-bodies : goal.returns-clause-bodies
@@ -9,4 +10,4 @@ pub returns-clause-spelled : goal.returns-clause-spelled
 returns-clause-spelled c = are_spelled
 
 pub returns-clause-lists : goal.returns-clause-lists
-returns-clause-lists c = lists_back
+returns-clause-lists c = rests

@@ -13,7 +13,7 @@ use Rattle.dfs_record.specs.declared.Record.{Record}
 abbrev pub IsId : DirId → Type 0
 IsId id = (id.job < 2 ^ 32) × (id.counter < 2 ^ 32)
 
--- a name in a directory: the root, or one that a job has made
+-- a name in a directory, whose two numbers are any of 32 bits
 pub record IsKey (key : Key) : Type 0 where
   pub parent : IsId key.parent
   pub name : IsName key.name

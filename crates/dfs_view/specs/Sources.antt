@@ -5,10 +5,7 @@ use Rattle.dfs_buffer.specs.declared.cursor.BufferRecords.{BufferRecords}
 use Rattle.dfs_cursor.specs.declared.either.EitherRecords.{EitherRecords}
 use Rattle.dfs_cursor.specs.Either.{of_inside}
 use Rattle.dfs_table.specs.declared.run_records.RunRecords.{RunRecords}
-use Rattle.dfs_table.specs.RunRecords.{blocks_left, coming, rest_of}
-
-abbrev pub run_rest : RunRecords → List Record
-run_rest s = rest_of s.first (coming s.left s.bytes.now (blocks_left s.blocks.high s.blocks.tables.now s.blocks.next s.blocks.bytes.now))
+use Rattle.dfs_table.specs.Cursors.{run_rest}
 
 abbrev pub open_rest : BufferRecords → List Record
 open_rest s = s.records.now ++ flat_map (λ c. c.items) s.behind.now

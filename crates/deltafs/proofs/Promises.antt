@@ -123,7 +123,7 @@ registry_grows at s (l ∷ ls) =
 
 -- the logs of the publications that there were before these lines
 pub old_logs : {before after : HostState} (old : Registry) (lines : List (List ℕ)) → LogsStay (session_after (opened old) lines).registry before after → LogsStay old before after
-old_logs {before} {after} old lines all = logs_first old (made (promises 0 (opened old) lines)) (subst (λ (registry : Registry). LogsStay registry before after) (registry_grows 0 (opened old) lines) all)
+old_logs {before} {after} old lines all = logs_first before after old (made (promises 0 (opened old) lines)) (subst (λ (registry : Registry). LogsStay registry before after) (registry_grows 0 (opened old) lines) all)
 
 -- Those that end within so many bytes.
 

@@ -79,7 +79,7 @@ pub returns-in-Done-clause-logs : goal.returns-in-Done-clause-logs
 returns-in-Done-clause-logs g c old tells start =
     let mid_tells = c.run_script.ensures.cause.tells ∙ tells in
     let first = subst (λ (k : Counts). IsAfter (Gen c.args.creates) old [] (g.H.Host.state c.args.host.now) k c.args.session) (sym c.new-summary.ensures) start in
-    logs_on old (c.run_script.ensures.logs old tells first) (logs_said old (summary_text c.run_script.new.summary) (c.say_summary.ensures.files mid_tells) (c.say_summary.ensures.images mid_tells))
+    logs_on _ _ _ old (c.run_script.ensures.logs old tells first) (logs_said old (summary_text c.run_script.new.summary) (c.say_summary.ensures.files mid_tells) (c.say_summary.ensures.images mid_tells))
 
 pub returns-in_default-clause-logs : goal.returns-in_default-clause-logs
 returns-in_default-clause-logs g c old tells start =

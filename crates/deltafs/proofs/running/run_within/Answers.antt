@@ -244,7 +244,7 @@ returns-in-Run-clause-logs g c old start =
     let mid = g.H.Host.state c.open.new.host in
     let kept = (silent_only c.open.ensures.only).content start.host_tells in
     let first = opened_first (command_of c.args.words.now) old host source start Run mid c.in-Ok-open.session kept (c.in-Ok-open.ensures.stands old start.host_tells start.settled start.value) (c.open.ensures.value start.host_tells (start.settled 0)) in
-    logs_on old (opened_logs host mid old c.open.ensures.only start.host_tells start.value)
+    logs_on _ _ _ old (opened_logs host mid old c.open.ensures.only start.host_tells start.value)
     (c.run_script.ensures.logs old (c.open.ensures.cause.tells ∙ start.host_tells) (subst (λ (k : Counts). IsAfter Run old [] mid k c.in-Ok-open.session) (sym c.new-summary.ensures) first))
 
 pub returns-in-Gen-clause-logs : goal.returns-in-Gen-clause-logs
@@ -254,7 +254,7 @@ returns-in-Gen-clause-logs g c old start =
     let mid = g.H.Host.state c.open.new.host in
     let kept = (silent_only c.open.ensures.only).content start.host_tells in
     let first = opened_first (command_of c.args.words.now) old host source start (Gen c.in-Gen.creates) mid c.in-Ok-open.session kept (c.in-Ok-open.ensures.stands old start.host_tells start.settled start.value) (c.open.ensures.value start.host_tells (start.settled 0)) in
-    logs_on old (opened_logs host mid old c.open.ensures.only start.host_tells start.value) (c.run_generated.ensures.logs old (c.open.ensures.cause.tells ∙ start.host_tells) first)
+    logs_on _ _ _ old (opened_logs host mid old c.open.ensures.only start.host_tells start.value) (c.run_generated.ensures.logs old (c.open.ensures.cause.tells ∙ start.host_tells) first)
 
 pub returns-in-Err-clause-logs : goal.returns-in-Err-clause-logs
 returns-in-Err-clause-logs g c old start = opened_logs (g.H.Host.state c.args.host.now) (g.H.Host.state c.open.new.host) old c.open.ensures.only start.host_tells start.value

@@ -86,4 +86,4 @@ returns-clause-grows g c tells = record { more = []; said = ((silent_these c.ste
 pub returns-in-Run-clause-logs : goal.returns-in-Run-clause-logs
 returns-in-Run-clause-logs g c s tells stands =
     let mid_tells = c.step.ensures.cause.tells ∙ tells in
-    logs_on s.registry (c.step.ensures.logs s tells stands) (logs_said s.registry c.deref.result.now (c.say.ensures.files mid_tells) (c.say.ensures.images mid_tells))
+    logs_on _ _ _ s.registry (c.step.ensures.logs s tells stands) (logs_said s.registry c.deref.result.now (c.say.ensures.files mid_tells) (c.say.ensures.images mid_tells))

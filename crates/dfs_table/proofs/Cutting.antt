@@ -33,7 +33,7 @@ fits_not [] r key first more = absurd cc
 fits_not (b ∷ bs) r key first more = lt-leb _ _ more
 
 -- a record goes into the block under way, or begins the next one
-pub push_cuts : (old new : WriterState) (r : Record) (rest : List Record) → (Fits old r → new ≡ record old { records = old.records ++ r ∷ [] }) → (¬ (Fits old r) → (new.records ≡ r ∷ []) × AddsBlock old new) → lengths new rest ≡ lengths old (r ∷ rest)
+pub push_cuts : {place : ℕ} (old new : WriterState) (r : Record) (rest : List Record) → (Fits old r → new ≡ record old { records = old.records ++ r ∷ [] }) → (¬ (Fits old r) → (new.records ≡ r ∷ []) × AddsBlock place old new) → lengths new rest ≡ lengths old (r ∷ rest)
 push_cuts old new r rest fit begins = by (nat_lt most_bytes (length (block_bytes (old.records ++ r ∷ [])))) refl
   where
     by : (b : Bool) → nat_lt most_bytes (length (block_bytes (old.records ++ r ∷ []))) ≡ b → lengths new rest ≡ lengths old (r ∷ rest)
@@ -132,13 +132,13 @@ too_many_needed w r rest all sound same many = elim many.0 [
 
 -- ---- the end of the run
 
-counts_of_all : (w : WriterState) (ts : List Table) (adds : AddsTable w ts) → map (λ (f : Fence). f.count) (all_fences ts) ≡ map (λ (f : Fence). f.count) (fences_of w) ++ length w.records ∷ []
+counts_of_all : {place : ℕ} (w : WriterState) (ts : List Table) (adds : AddsTable place w ts) → map (λ (f : Fence). f.count) (all_fences ts) ≡ map (λ (f : Fence). f.count) (fences_of w) ++ length w.records ∷ []
 counts_of_all w ts adds =
     ap (λ (l : List Table). map (λ (f : Fence). f.count) (all_fences l)) adds.tables
     ∙ ap (map (λ (f : Fence). f.count)) (fences_more w.closed adds.table ∙ ap (λ fs. all_fences w.closed ++ fs) adds.fences ∙ sym (append_assoc (all_fences w.closed) w.fences (adds.fence ∷ [])))
     ∙ map-append (λ (f : Fence). f.count) (fences_of w) (adds.fence ∷ []) ∙ ap (λ n. map (λ (f : Fence). f.count) (fences_of w) ++ n ∷ []) adds.count
 
-last_cut : (w : WriterState) (ts : List Table) (all : List Record) → IsSound w → lengths w [] ≡ map length (cut all) → AddsTable w ts → 1 ≤ length w.records → IsCut all ts
+last_cut : {place : ℕ} (w : WriterState) (ts : List Table) (all : List Record) → IsSound w → lengths w [] ≡ map length (cut all) → AddsTable place w ts → 1 ≤ length w.records → IsCut all ts
 last_cut w ts all sound same adds some =
     let blocks : map (λ (f : Fence). f.count) (all_fences ts) ≡ map length (cut all) = counts_of_all w ts adds ∙ by w.records refl ∙ same in
     record {
@@ -166,10 +166,10 @@ last_cut w ts all sound same adds some =
     by [] e = absurd (omega (arith, some, ap length e))
     by (b ∷ bs) e = ap (λ rs. map (λ (f : Fence). f.count) (fences_of w) ++ length rs ∷ []) e ∙ ap (λ rs. map (λ (f : Fence). f.count) (fences_of w) ++ map length (cut_behind [] rs)) (sym e)
 
-pub end_cut : {E : Type 0} (w : WriterState) (result : Result Run E) (all : List Record) → IsSound w → lengths w [] ≡ map length (cut all) → (w.records ≡ [] → IfOk result (λ (run : Run). run.tables ≡ [])) → (1 ≤ length w.records → IfOk result (λ (run : Run). AddsTable w run.tables))
+pub end_cut : {E : Type 0} (place : ℕ) (w : WriterState) (result : Result Run E) (all : List Record) → IsSound w → lengths w [] ≡ map length (cut all) → (w.records ≡ [] → IfOk result (λ (run : Run). run.tables ≡ [])) → (1 ≤ length w.records → IfOk result (λ (run : Run). AddsTable place w run.tables))
     → IfOk result (λ (run : Run). IsCut all run.tables)
-end_cut w (Err e) all sound same none last = tt
-end_cut w (Ok run) all sound same none last = by w.records refl
+end_cut place w (Err e) all sound same none last = tt
+end_cut place w (Ok run) all sound same none last = by w.records refl
   where
     by : (rs : List Record) → w.records ≡ rs → IsCut all run.tables
     by [] e =

@@ -1,6 +1,6 @@
 -- The steps of a writer on a host.
 use Rattle.std.proofs.Common.{◌≡◌, ◌≤◌, ◌<◌, ◌+◌, ◌*◌, ◌++◌, ◌∷◌, [], ℕ, List, length, ◌∙◌, sym, ap, subst, arith}
-use Rattle.std.proofs.lemmas.List.{length-append, length-take}
+use Rattle.std.proofs.lemmas.List.{append_cancel_left, length-append, length-take}
 use Rattle.dfs_host.specs.Host.{HostState, Told, bytes_of}
 use Rattle.dfs_log.specs.Logs.{LogState, LogStands}
 use Rattle.dfs_block.specs.Block.{block_bytes, last_key}
@@ -111,18 +111,44 @@ module _ {place : ℕ} {old new : WriterState} (step : ClosesBlock place old new
 -- ---- what the steps added
 
 module _ {place : ℕ} {old new : WriterState} (step : ClosesBlock place old new) where
-  pub added_block : AddsBlock old new
-  added_block = record { fence = step.fence; fences = block_fences place old new step; count = step.states.count; first = step.states.first; last = step.states.last }
+  pub added_block : AddsBlock place old new
+  added_block = record {
+    fence = step.fence;
+    at = step.states.at;
+    index_at = λ t e. absurd (omega (arith, ap length e, ap length step.closed, length-append old.closed (t ∷ [])));
+    fences = block_fences place old new step;
+    count = step.states.count;
+    first = step.states.first;
+    last = step.states.last;
+  }
 
-  module _ {job at : ℕ} {end : WriterState} (next : ClosesTable job at new end) where
-    pub added_block_before : AddsBlock old end
-    added_block_before = record { fence = step.fence; fences = table_fences job at new end next ∙ block_fences place old new step; count = step.states.count; first = step.states.first; last = step.states.last }
+  module _ {job at : ℕ} {end : WriterState} (next : ClosesTable job at new end) (behind : at ≡ place + length (block_bytes old.records)) where
+    index_behind : next.table.index_at ≡ place + step.fence.len
+    index_behind = omega (arith, next.index_at, behind, step.states.len)
 
-    pub added_table : AddsTable old end.closed
+    tables_more : end.closed ≡ old.closed ++ next.table ∷ []
+    tables_more = next.closed ∙ ap (λ ts. ts ++ next.table ∷ []) step.closed
+
+    pub added_block_before : AddsBlock place old end
+    added_block_before = record {
+      fence = step.fence;
+      at = step.states.at;
+      index_at = λ t e.
+          let same = append_cancel_left old.closed (next.table ∷ []) (t ∷ []) (sym tables_more ∙ e) in
+          (subst (AllByRecursion (λ (u : Table). u.index_at ≡ place + step.fence.len)) same (index_behind, tt)).0;
+      fences = table_fences job at new end next ∙ block_fences place old new step;
+      count = step.states.count;
+      first = step.states.first;
+      last = step.states.last;
+    }
+
+    pub added_table : AddsTable place old end.closed
     added_table = record {
       table = next.table;
       fence = step.fence;
-      tables = next.closed ∙ ap (λ ts. ts ++ next.table ∷ []) step.closed;
+      at = step.states.at;
+      index_at = index_behind;
+      tables = tables_more;
       fences = next.table_fences ∙ step.fences;
       count = step.states.count;
       first = step.states.first;

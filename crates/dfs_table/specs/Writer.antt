@@ -90,18 +90,24 @@ IsOneTooMany w r = BeginsTable w r × (w.tables_left ≤ begun w)
 abbrev pub owed : WriterState → ℕ
 owed w = 1100 * length w.records + 546 * length w.fences
 
--- The records not yet written became one block, the last one of all.
-pub record AddsBlock (old new : WriterState) : Type 0 where
+-- The records not yet written became one block, which begins at the place and is the last one of all. Where its table was closed, the
+-- index begins behind it.
+pub record AddsBlock (place : ℕ) (old new : WriterState) : Type 0 where
   pub fence : Fence
+  pub at : fence.at ≡ place
+  pub index_at : (table : Table) → new.closed ≡ old.closed ++ table ∷ [] → table.index_at ≡ place + fence.len
   pub fences : fences_of new ≡ fences_of old ++ fence ∷ []
   pub count : fence.count ≡ length old.records
   pub first : first_key old.records ≡ Some fence.first
   pub last : last_key old.records ≡ Some fence.last
 
--- The records not yet written became the last block of the table under way, which became the last one of these tables.
-pub record AddsTable (w : WriterState) (ts : List Table) : Type 0 where
+-- The records not yet written became the last block of the table under way, which begins at the place. The table became the last one
+-- of these, and its index begins behind the block.
+pub record AddsTable (place : ℕ) (w : WriterState) (ts : List Table) : Type 0 where
   pub table : Table
   pub fence : Fence
+  pub at : fence.at ≡ place
+  pub index_at : table.index_at ≡ place + fence.len
   pub tables : ts ≡ w.closed ++ table ∷ []
   pub fences : table.fences ≡ w.fences ++ fence ∷ []
   pub count : fence.count ≡ length w.records

@@ -101,11 +101,12 @@ impl TableWriter {
         ensures tables_left { self.new.tables_left ≡ self.old.tables_left }
 
         // It goes into the block under way exactly where it fits there, and then host and log are as before. Where it does not, what
-        // is not written yet becomes one block, and it begins the next one. A table is closed with 4,096 blocks.
+        // is not written yet becomes one block at the log's end, and it begins the next one. A table is closed with 4,096 blocks, and
+        // its index begins behind the last one.
         ensures fits { Fits self.old (record_of rec.entry) → OnOk result (self.new ≡ record self.old { records = self.old.records ++ record_of rec.entry ∷ [] }) }
         ensures untouched { Fits self.old (record_of rec.entry) → (H.state host.new ≡ H.state host.old) × OnOk result (log.new ≡ log.old) }
         ensures untouched_but_spent { Fits self.old (record_of rec.entry) → OnErr result (log.new ≡ record log.old { spent = true }) }
-        ensures begins { ¬ (Fits self.old (record_of rec.entry)) → OnOk result ((self.new.records ≡ record_of rec.entry ∷ []) × AddsBlock self.old self.new) }
+        ensures begins { ¬ (Fits self.old (record_of rec.entry)) → OnOk result ((self.new.records ≡ record_of rec.entry ∷ []) × AddsBlock log.old.len self.old self.new) }
         ensures full_tables { OnOk result (AllByRecursion IsFull self.new.closed) }
         ensures count { OnOk result (count_in self.new ≡ count_in self.old + 1) }
         ensures enough { OnOk result (4096 * length self.new.closed ≤ count_in self.new) }
@@ -161,8 +162,9 @@ impl TableWriter {
         ensures stored { Told (H.state host.old) (IfOk result (λ run. IsStored (bytes_of (H.state host.new) log.old.file) run (delta (pushed (bytes_of (H.state host.old) log.old.file) self)))) }
         ensures records { Told (H.state host.old) (IfOk result (λ run. run_records (bytes_of (H.state host.new) log.old.file) run.tables ≡ pushed (bytes_of (H.state host.old) log.old.file) self)) }
         ensures none { self.records ≡ [] → IfOk result (λ run. run.tables ≡ []) × (H.state host.new ≡ H.state host.old) }
-        // What is not written yet becomes the last block of one last table, and the tables before it stay.
-        ensures last { 1 ≤ length self.records → IfOk result (λ run. AddsTable self run.tables) }
+        // What is not written yet becomes the last block of one last table, at the log's end, and the index begins behind it. The tables
+        // before it stay.
+        ensures last { 1 ≤ length self.records → IfOk result (λ run. AddsTable log.old.len self run.tables) }
         ensures count { IfOk result (λ run. count_of (all_fences run.tables) ≡ count_in self) }
         ensures file { IfOk result (λ run. AreIn log.old.file run.tables) }
         ensures few { IfOk result (λ run. length run.tables ≤ self.tables_left) }
@@ -215,7 +217,7 @@ impl TableWriter {
         ensures count { OnOk result (count_of (all_fences self.new.closed) ≡ count_in self.old) }
         ensures written { OnOk result ((self.new.records ≡ []) × (self.new.fences ≡ []) × (self.new.blocks ≡ [])) }
         ensures none { self.old.records ≡ [] → OnOk result (self.new.closed ≡ []) × (H.state host.new ≡ H.state host.old) }
-        ensures last { 1 ≤ length self.old.records → OnOk result (AddsTable self.old self.new.closed) }
+        ensures last { 1 ≤ length self.old.records → OnOk result (AddsTable log.old.len self.old self.new.closed) }
         ensures file { OnOk result (AreIn log.old.file self.new.closed) }
         ensures few { OnOk result (length self.new.closed ≤ self.old.tables_left) }
         ensures live { OnOk result (IsFalse log.new.spent) }
@@ -260,7 +262,7 @@ impl TableWriter {
         ensures file { OnOk result (AreIn log.old.file self.new.closed) }
         ensures fits { Fits self.old (record_of rec.entry) → OnOk result (self.new ≡ record self.old { records = self.old.records ++ record_of rec.entry ∷ [] }) }
         ensures untouched { Fits self.old (record_of rec.entry) → (H.state host.new ≡ H.state host.old) × (log.new ≡ log.old) }
-        ensures begins { ¬ (Fits self.old (record_of rec.entry)) → OnOk result ((self.new.records ≡ record_of rec.entry ∷ []) × AddsBlock self.old self.new) }
+        ensures begins { ¬ (Fits self.old (record_of rec.entry)) → OnOk result ((self.new.records ≡ record_of rec.entry ∷ []) × AddsBlock log.old.len self.old self.new) }
         ensures count { OnOk result (count_in self.new ≡ count_in self.old + 1) }
         ensures sound { OnOk result (IsSound self.new) }
         ensures live { OnOk result (IsFalse log.new.spent) }
@@ -311,7 +313,7 @@ impl TableWriter {
         ensures log { Told (H.state host.old) (OnOk result (LogStands (H.state host.new) log.new)) }
         ensures file { OnOk result (AreIn log.old.file self.new.closed) }
         ensures ready { OnOk result (IsReady (last_key self.old.records) (count_in self.old) self.new) }
-        ensures block { OnOk result (AddsBlock self.old self.new) }
+        ensures block { OnOk result (AddsBlock log.old.len self.old self.new) }
         ensures live { OnOk result (IsFalse log.new.spent) }
         ensures full { IsErrOf result Fault.LogFull → (0 < log.new.refused) ⊎ EndsRun self.old }
         ensures refused { 0 < log.new.refused → IsErrOf result Fault.LogFull }

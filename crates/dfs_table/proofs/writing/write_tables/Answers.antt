@@ -108,7 +108,7 @@ pub returns-clause-cut : goal.returns-clause-cut
 returns-clause-cut g c =
     let h = c.loop-rec.invariant in
     let none = none_left _ _ c.head.result c.in_default-head.not-Item c.head.ensures in
-    end_cut c.loop-rec.writer c.finish.result (g.R.Records.rest c.args.records) h.sound
+    end_cut _ c.loop-rec.writer c.finish.result (g.R.Records.rest c.args.records) h.sound
     (ap (λ l. map (λ (f : Fence). f.count) (fences_of c.loop-rec.writer) ++ map length (cut_behind l c.loop-rec.writer.records)) (sym none) ∙ h.cut)
     (λ e. (c.finish.ensures.none e).0) c.finish.ensures.last
 
@@ -120,7 +120,7 @@ returns-clause-too_many g c many =
 pub returns-clause-passing : goal.returns-clause-passing
 returns-clause-passing g c = λ p all.
     let h = c.loop-rec.invariant.passing p all in
-    end_passes p c.loop-rec.writer c.finish.result (λ e. (c.finish.ensures.none e).0) c.finish.ensures.last (h.0, h.1)
+    end_passes p _ c.loop-rec.writer c.finish.result (λ e. (c.finish.ensures.none e).0) c.finish.ensures.last (h.0, h.1)
 
 pub returns-clause-before : goal.returns-clause-before
 returns-clause-before g c =

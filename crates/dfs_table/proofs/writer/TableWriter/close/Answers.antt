@@ -39,7 +39,7 @@ returns-clause-rise g c =
     subst AreApart (sym all ∙ ap (λ fs. all_fences c.close_table.new.self.closed ++ fs) then.closes.fences ∙ append-nil (all_fences c.close_table.new.self.closed)) (rises_after_block first.closes c.requires.sound)
 
 pub returns-clause-last : goal.returns-clause-last
-returns-clause-last g c = λ _. added_table c.in_ok-close_block.ensures.closes c.in_ok-close_table.ensures.closes
+returns-clause-last g c = λ _. added_table c.in_ok-close_block.ensures.closes c.in_ok-close_table.ensures.closes (ap (λ l. l.len) c.in_ok-close_block.ensures.appended.longer)
 
 pub returns-clause-growth : goal.returns-clause-growth
 returns-clause-growth g c =

@@ -30,14 +30,16 @@ returns-in-Ok-clause-wrote g c =
 pub returns-in-Ok-clause-last : goal.returns-in-Ok-clause-last
 returns-in-Ok-clause-last g c = λ some.
     let added = c.in-Ok.ensures.last (subst (λ (w : WriterState). 1 ≤ length w.records) (sym c.writer.view_is) some) in
-    let here : AddsTable c.args.self c.close.new.self.closed =
+    let here : AddsTable c.args.log.now.len c.args.self c.close.new.self.closed =
     record {
       table = added.table;
       fence = added.fence;
+      at = added.at;
+      index_at = added.index_at;
       tables = added.tables ∙ ap (λ (w : WriterState). w.closed ++ added.table ∷ []) c.writer.view_is;
       fences = added.fences ∙ ap (λ (w : WriterState). w.fences ++ added.fence ∷ []) c.writer.view_is;
       count = added.count ∙ ap (λ (w : WriterState). length w.records) c.writer.view_is;
       first = ap (λ (w : WriterState). first_key w.records) (sym c.writer.view_is) ∙ added.first;
       last = ap (λ (w : WriterState). last_key w.records) (sym c.writer.view_is) ∙ added.last;
     } in
-    subst (λ (w : WriterState). AddsTable c.args.self w.closed) (sym c.writer-2.view_is) here
+    subst (λ (w : WriterState). AddsTable c.args.log.now.len c.args.self w.closed) (sym c.writer-2.view_is) here

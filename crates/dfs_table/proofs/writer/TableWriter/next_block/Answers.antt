@@ -74,7 +74,7 @@ returns-then-may_begin-clause-ready g c =
     (c.if-may_begin.ensures.0 refl)
 
 pub returns-then-may_begin-clause-block : goal.returns-then-may_begin-clause-block
-returns-then-may_begin-clause-block g c = added_block_before c.in_ok-close_block.ensures.closes c.in_ok-close_table.ensures.closes
+returns-then-may_begin-clause-block g c = added_block_before c.in_ok-close_block.ensures.closes c.in_ok-close_table.ensures.closes (ap (λ l. l.len) c.in_ok-close_block.ensures.appended.longer)
 
 pub returns-then-may_begin-clause-growth : goal.returns-then-may_begin-clause-growth
 returns-then-may_begin-clause-growth g c =

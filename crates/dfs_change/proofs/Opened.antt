@@ -1,6 +1,7 @@
 -- Tables that a manifest tells of.
 use Rattle.std.proofs.Common.{◌≡◌, ◌≤◌, ◌+◌, ◌++◌, ◌∷◌, [], zero, suc, ℕ, List, length, take, drop, refl, ◌∙◌, sym, ap, subst, arith, slice_get, Some}
-use Rattle.std.specs.List.{AllByRecursion}
+use Rattle.std.specs.List.{AllByRecursion, Any}
+use Rattle.std.proofs.lemmas.Option.{get_or_from_slice_get, slice_get_within}
 use Rattle.std.proofs.lemmas.Grind.{flat_map-append}
 use Rattle.std.proofs.lemmas.List.{length-append, length-drop, length-map, length-take, map-append, take-append-drop}
 use Rattle.dfs_record.specs.Delta.{delta}
@@ -13,7 +14,7 @@ use Rattle.dfs_manifest.proofs.Manifests.{short, one_list as one_manifest}
 use Rattle.dfs_registry.specs.declared.listed.Listed.{Listed}
 use Rattle.dfs_table.specs.declared.table.Table.{Table}
 use Rattle.dfs_table.specs.Counts.{count_of}
-use Rattle.dfs_table.specs.Opened.{IsNoTable, IsTableAt}
+use Rattle.dfs_table.specs.Opened.{IsNoTable, IsTableAt, Lies}
 use Rattle.dfs_table.specs.Identities.{IsWithin}
 use Rattle.dfs_table.specs.Stored.{part, records_by, run_records, table_records}
 use Rattle.dfs_table.specs.Tables.{AreTables, all_fences}
@@ -50,6 +51,10 @@ fences_next tables table =
       length-append (all_fences tables) (all_fences (table ∷ [])),
       length-append table.fences [],
     )
+
+-- an index may lie at one of the places
+pub lies_there : (ts : List Extent) (end i : ℕ) (t : Extent) → slice_get ts i ≡ Some t → Lies t.0 t.1 2220036 end → Any (λ (e : Extent). Lies e.0 e.1 2220036 end) ts
+lies_there ts end i t is lies = (i, t, slice_get_within ts i t is, get_or_from_slice_get ts i t t is, lies)
 
 module _ (file : List ℕ) (l : Listed) where
   one_table : (t : Extent) (fs gs : List Fence) → IsTableAt file l.job t.0 t.1 (end_of l) fs → IsTableAt file l.job t.0 t.1 (end_of l) gs → fs ≡ gs

@@ -2,7 +2,7 @@
 
 ghost use Rattle.std.specs.Prelude.{◌≡◌, ◌≤◌, ◌+◌, ◌&&◌, nat_le, ◌++◌, ◌∷◌, ◌↔◌, ℕ, [], List, length, take, IfOk, IfSome, IsErrOf, IsSome, OnOk};
 ghost use Rattle.std.specs.Str.{bytes_eq};
-ghost use Rattle.std.specs.List.{AllByRecursion};
+ghost use Rattle.std.specs.List.{AllByRecursion, Any};
 ghost use Rattle.dfs_fence.specs.declared.fence.Fence.{Fence};
 ghost use Rattle.dfs_fence.specs.Index.{AreApart};
 ghost use Rattle.dfs_host.specs.Counts.{RoseBy};
@@ -11,7 +11,7 @@ ghost use Rattle.dfs_log.specs.Logs.{log_header};
 ghost use Rattle.dfs_manifest.specs.Manifest.{IsManifest};
 ghost use Rattle.dfs_record.specs.Delta.{delta};
 ghost use Rattle.dfs_table.specs.Identities.{IsWithin};
-ghost use Rattle.dfs_table.specs.Opened.{HasOpenCause};
+ghost use Rattle.dfs_table.specs.Opened.{HasOpenCause, Lies};
 ghost use Rattle.dfs_table.specs.Stored.{IsStored, IsTableOf, part, run_records};
 ghost use Rattle.dfs_table.specs.Tables.{AreTables, all_fences};
 ghost use Rattle.dfs_table.specs.Writer.{AreIn};
@@ -222,6 +222,9 @@ fn open_tables<H: Host>(
     ensures few { IfOk result (λ tables. length tables ≡ length manifest.now) }
     ensures file { IfOk result (AreIn listed.now.job) }
     ensures malformed { Told (H.state host.old) (IsErrOf result OpenFault.Malformed → (fss : List (List Fence)) → AreTablesAt (bytes_of (H.state host.old) listed.now.job) listed.now manifest.now fss → ¬ (AreApart (joined fss))) }
+
+    // Memory is asked for only where an index of that length may lie at one of the manifest's places.
+    ensures memory { Told (H.state host.old) (IsErrOf result (OpenFault.Fault Fault.NoMemory) → Any (λ t. Lies t.0 t.1 2220036 end) manifest.now) }
     ensures never_full { IsErrOf result (OpenFault.Fault Fault.LogFull) → ⊥ }
     ensures never_changed { (file at : ℕ) → IsErrOf result (OpenFault.Fault (Fault.Changed file at)) → ⊥ }
     ensures only { OnlyReads (H.state host.old) (H.state host.new) }

@@ -1,7 +1,7 @@
-use Rattle.std.proofs.Common.{◌≡◌, ◌∙◌, [], Some, Err, refl, ap, subst, sym}
+use Rattle.std.proofs.Common.{◌≡◌, ◌∙◌, [], Some, Err, refl, ap, subst, sym, inr}
 use Rattle.dfs_gen.specs.Summary.{Counts}
-use Rattle.dfs_host.specs.Host.{said_of}
-use Rattle.dfs_host.proofs.Moments.{goes_on}
+use Rattle.dfs_host.specs.Host.{said_of, bytes_of}
+use Rattle.dfs_host.proofs.Moments.{goes_on, reads_nothing, silent_only}
 use Rattle.dfs_session.specs.Files.{value_on}
 use Rattle.deltafs.specs.declared.status.Status.{Status}
 use Rattle.deltafs.specs.declared.status.Status.TheVariants.{NoMemory}
@@ -14,8 +14,9 @@ use Rattle.deltafs.specs.Says.{Untaken}
 use Rattle.deltafs.specs.Words.{command_of}
 use Rattle.deltafs.proofs.Completing.{completes_gen, completes_run, completes_unopened, disk_unopened, no_disk_fault, no_output_fault, no_source_fault, no_words, none_by, tells_isolated}
 use Rattle.deltafs.proofs.Faults.{limit_unopened, takes_none}
-use Rattle.deltafs.proofs.Leaving.{idle, opened_first, opening, prompt_idle, shut_idle}
-use Rattle.deltafs.proofs.Starting.{gen_run, says_nothing, says_unopened, some_none}
+use Rattle.deltafs.proofs.Leaving.{idle, opened_first, opening, prompt_idle}
+use Rattle.deltafs.proofs.Starting.{gen_run, says_nothing, says_unopened, some_none, is_shut}
+use Rattle.dfs_session.proofs.Writing.{logs_idle, logs_on, opened_logs}
 use Rattle.deltafs.proofs.running.run_within.Goals as goal
 
 -- The script of the source.

@@ -10,6 +10,7 @@ use Rattle.deltafs.specs.Lines.{IsOfLine, Leaves, SaysText}
 use Rattle.deltafs.proofs.Faults.{on_ok, leaves_said, output_alone, says_reply}
 use Rattle.deltafs.proofs.Hosts.{sound_stays, stands_stays, value_stays}
 use Rattle.deltafs.proofs.Leaving.{stepped, replied}
+use Rattle.dfs_session.proofs.Writing.{logs_on, logs_said, silent_these}
 use Rattle.deltafs.proofs.running.work_line.Goals as goal
 
 pub returns-in-Run-clause-ready : goal.returns-in-Run-clause-ready

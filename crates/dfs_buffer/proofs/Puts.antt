@@ -5,8 +5,8 @@ use Rattle.std.specs.Ordering.{eq_by_cmp, is_eq, is_lt}
 use Rattle.std.specs.FinMap.Entries.{below_all, length-put}
 use Rattle.std.specs.Ordering.{ordering_reverse}
 use Rattle.std.proofs.lemmas.List.Sums.{fold-append}
-use Rattle.std.proofs.lemmas.List.{length-append, take_all}
-use Rattle.dfs_buffer.specs.Buffer.{Buffered, after_put, StandsFor}
+use Rattle.std.proofs.lemmas.List.{take_all}
+use Rattle.dfs_buffer.specs.Buffer.{Buffered, StandsFor}
 use Rattle.std.proofs.lemmas.List.Elements.{All-cons, All-append, All-head, All-tail}
 use Rattle.dfs_record.specs.declared.Key.{Key}
 use Rattle.dfs_record.specs.declared.Record.{Record}
@@ -182,12 +182,6 @@ turned_back true h = refl
 turned_back false h = absurd cc
 
 -- ---- the records that a buffer stands for
-
-pub stands_put : (b c : Buffered) (r : Record) (rs : List Record) → c ≡ after_put b r → StandsFor b rs → StandsFor c (rs ++ r ∷ [])
-stands_put b c r rs is s = subst (λ x. StandsFor x (rs ++ r ∷ [])) (sym is) (record {
-  held = ap (λ d. with_record d r) s.held ∙ sym (fold-append with_record empty rs (r ∷ []));
-  made = omega (arith, s.made, length-append rs (r ∷ []));
-})
 
 pub last_of : (b : Buffered) (rs : List Record) (q : Key) → StandsFor b rs → get b.held q ≡ last_value q rs
 last_of b rs q s = ap (λ d. get d q) s.held ∙ get-delta rs q

@@ -1,5 +1,5 @@
 -- What a run ends with that no fault stops, and what it told each job.
-use Rattle.std.proofs.Common.{◌≡◌, ◌∙◌, ◌≤◌, [], ◌<◌, ℕ, List, ◌∷◌, ◌++◌, length, Option, Some, None, take, drop, refl, sym, ap, subst, arith, append-nil, append_assoc, length-append}
+use Rattle.std.proofs.Common.{◌≡◌, ◌∙◌, ◌≤◌, [], ◌<◌, ℕ, List, ◌∷◌, ◌++◌, length, Option, Some, None, take, drop, refl, sym, ap, subst, arith, append-nil, append_assoc, length-append, inl, inr, ⊎_elim}
 use Rattle.std.proofs.lemmas.List.{take-append-drop, take-append-le}
 use Rattle.std.proofs.Math.Seq.{take-append_seam}
 use Rattle.dfs_gen.specs.Script.{script as generated}

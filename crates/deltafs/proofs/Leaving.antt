@@ -4,13 +4,12 @@ use Rattle.std.specs.Prelude.{IsTrue, Result, Ok, Err, OnOk}
 use Rattle.std.specs.List.{AllByRecursion}
 use Rattle.dfs_gen.specs.Summary.{Counts, counts_of}
 use Rattle.dfs_gen.specs.Script.{script as generated}
-use Rattle.dfs_host.specs.Disk.{Image, IsImage, IsSettled}
-use Rattle.dfs_host.specs.Host.{HostState, LeavesOnly, ChangesOnly, KeepsOutput, IsSaying, bytes_of, said_of}
+use Rattle.dfs_host.specs.Disk.{Image, IsImage}
+use Rattle.dfs_host.specs.Host.{HostState, LeavesOnly, KeepsOutput, IsSaying, bytes_of, said_of}
 use Rattle.dfs_host.specs.Source.{SourceState}
 use Rattle.dfs_host.proofs.Files.{left_when_settled}
-use Rattle.dfs_host.proofs.Moments.{started, goes_on, widened, nothing_done}
+use Rattle.dfs_host.proofs.Moments.{started, goes_on, widened}
 use Rattle.dfs_registry.specs.declared.listed.Listed.{Listed}
-use Rattle.dfs_registry.specs.Reading.{registry as reading}
 use Rattle.dfs_registry.proofs.Standing.{standing_images}
 use Rattle.dfs_change.specs.Meant.{log_meaning}
 use Rattle.dfs_reply.specs.Text.{text}

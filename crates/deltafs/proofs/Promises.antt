@@ -26,6 +26,9 @@ use Rattle.dfs_session.specs.Run.{session_after, written, output, Promise, promi
 use Rattle.dfs_session.specs.Session.{Session, Publication, Registry, Step, opened, step, after_meaning, after_command, begins, begins_unless, chosen, is_damaged, is_full, is_published, live_job, merges_with, of_live, operates, plans_with, publication_by, publishes, publishes_anew, refused, stays, with_job, without_job}
 use Rattle.dfs_session.proofs.Runs.{written-append, promises-append}
 use Rattle.deltafs.specs.Keeps.{acknowledged, IsAhead, KeepsReplies}
+use Rattle.dfs_host.specs.Host.{HostState}
+use Rattle.dfs_session.proofs.Writing.{logs_first}
+use Rattle.dfs_session.specs.Writes.{LogsStay}
 
 -- A step.
 
@@ -122,8 +125,8 @@ registry_grows at s (l ∷ ls) =
     ∙ ap (λ (ps : Registry). s.registry ++ ps) (sym (map-append (λ (p : Promise). p.publication) (promised at s.registry t) (promises end t.session ls)))
 
 -- the logs of the publications that there were before these lines
-pub old_logs : {before after : HostState} (old : Registry) (lines : List (List ℕ)) → LogsStay (session_after (opened old) lines).registry before after → LogsStay old before after
-old_logs {before} {after} old lines all = logs_first old (made (promises 0 (opened old) lines)) (subst (λ (registry : Registry). LogsStay registry before after) (registry_grows 0 (opened old) lines) all)
+pub old_logs : (before after : HostState) (old : Registry) (lines : List (List ℕ)) → LogsStay (session_after (opened old) lines).registry before after → LogsStay old before after
+old_logs before after old lines all = logs_first before after old (made (promises 0 (opened old) lines)) (subst (λ (registry : Registry). LogsStay registry before after) (registry_grows 0 (opened old) lines) all)
 
 -- Those that end within so many bytes.
 

@@ -1,16 +1,16 @@
 -- Runs that work no line, by what the words ask for.
-use Rattle.std.proofs.Common.{◌≡◌, ◌≢◌, ℕ, List, [], Option, Some, None, refl, sym, ap, subst, ◌∙◌}
+use Rattle.std.proofs.Common.{◌≡◌, ◌≢◌, ℕ, List, [], Option, Some, None, refl, sym, ap, subst, ◌∙◌, inl}
 use Rattle.std.specs.Prelude.{Err}
 use mathlib.Core.Bool.{true≢false}
 use Rattle.std.specs.Prelude.{is_some}
 use Rattle.dfs_gen.specs.Script.{script as generated}
 use Rattle.dfs_host.specs.Host.{HostState, bytes_of}
-use Rattle.dfs_registry.specs.Reading.{registry as reading}
+use Rattle.dfs_registry.specs.Reading.{registry as reading, Reading, damaged, listing, not_a_registry}
 use Rattle.dfs_registry.specs.declared.fault.RegFault.{RegFault}
 use Rattle.dfs_registry.specs.declared.fault.RegFault.TheVariants as reg
 use Rattle.dfs_script.specs.Script.{lines_of}
 use Rattle.dfs_session.specs.declared.session.Session.{Session as LiveSession}
-use Rattle.dfs_session.specs.Files.{value_on, value_read}
+use Rattle.dfs_session.specs.Files.{value_on, value_read, value}
 use Rattle.dfs_session.specs.Session.{Registry}
 use Rattle.dfs_session.specs.Worked.{OpensAs}
 use Rattle.deltafs.specs.declared.status.Status.TheVariants.{DiskFault, NoMemory}
@@ -18,6 +18,7 @@ use Rattle.deltafs.specs.declared.words.Command.{Command}
 use Rattle.deltafs.specs.declared.words.Command.TheVariants.{Run, Gen}
 use Rattle.deltafs.specs.Commands.{Says}
 use Rattle.deltafs.specs.Refusals.{status_of}
+use Rattle.dfs_registry.specs.Opening.{IsShut}
 
 pub some_none : {X : Type 0} (x : X) → Some x ≡ None → ⊥
 some_none x is = true≢false (ap is_some is)

@@ -11,7 +11,6 @@ use Rattle.dfs_host.specs.Host.{HostState, LeavesOnly, Only, HasDiskCause}
 use Rattle.dfs_host.specs.declared.fault.Failed.{Failed}
 use Rattle.dfs_host.specs.declared.fault.Fault.{Fault}
 use Rattle.dfs_host.specs.declared.fault.Fault.TheVariants.{NoMemory, Disk, LogFull, Changed}
-use Rattle.dfs_host.proofs.Moments.{}
 use Rattle.dfs_record.specs.declared.SnapName.{SnapName}
 use Rattle.dfs_record.specs.Delta.{Delta}
 use Rattle.dfs_change.specs.declared.change.Change.{Change}
@@ -42,6 +41,8 @@ use Rattle.dfs_session.proofs.Kept.{EntryKept, Keeps, bytes_stay, keep_jobs, kee
 use Rattle.dfs_session.proofs.Lists.{mapped}
 use Rattle.dfs_session.proofs.Selecting.{found_listed}
 use Rattle.dfs_session.proofs.Working.{worked_by_memory}
+use Rattle.dfs_session.specs.Writes.{OnlyThese}
+use Rattle.dfs_session.proofs.Writing.{next_written, one_of_these}
 
 abbrev IsDiskFault : Fault → Type 0
 IsDiskFault NoMemory = ⊥

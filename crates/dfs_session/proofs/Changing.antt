@@ -44,6 +44,7 @@ use Rattle.dfs_session.proofs.Jobs.{found_set, Live, FoundBoth, all_set, all_fou
 use Rattle.dfs_session.proofs.Kept.{Keeps, bytes_stay, keep_listed, only_keeps, plains_changed, registry_kept, registry_value, settled_stay, unlisted_apart, zip_changed}
 use Rattle.dfs_session.proofs.Values.{same_publications, stands_value}
 use Rattle.dfs_session.proofs.Working.{OnlyMemory, ended_names, on_ok, same_names, worked_by_memory}
+use Rattle.dfs_session.proofs.Writing.{one_of_these, reads_these}
 
 abbrev Jobs : Type 0
 Jobs = BTreeMap JobWord LiveJob

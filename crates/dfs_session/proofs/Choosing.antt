@@ -35,6 +35,8 @@ use Rattle.dfs_session.proofs.Jobs.{FoundBoth, both_found, zip_length}
 use Rattle.dfs_session.proofs.Handed.{fault_or, handed_cause}
 use Rattle.dfs_session.proofs.Kept.{sound_reads, stands_read}
 use Rattle.dfs_session.proofs.Values.{stands_value}
+use Rattle.dfs_session.specs.Writes.{OnlyThese}
+use Rattle.dfs_session.proofs.Writing.{reads_these, these_on}
 
 -- ---- what the plain session has
 

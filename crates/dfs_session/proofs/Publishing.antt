@@ -53,6 +53,7 @@ use Rattle.dfs_session.proofs.Numbered.{HasFile, AreNumbered, registry_numbered}
 use Rattle.dfs_session.proofs.Selecting.{no_fault}
 use Rattle.dfs_session.proofs.Values.{same_publications, stands_value}
 use Rattle.dfs_session.proofs.Working.{ended_names, memory_cause}
+use Rattle.dfs_session.proofs.Writing.{log_written, one_of_these, these_on}
 
 greatest_push : (ls : List Listed) (l : Listed) → greatest_job (ls ++ l ∷ []) ≡ max (greatest_job ls) l.job
 greatest_push [] l = omega arith

@@ -1,5 +1,5 @@
 -- Which files the calls of a line write, and that no log of a publication is among them.
-use Rattle.std.proofs.Common.{◌≡◌, ◌≢◌, ◌∙◌, ℕ, ◌+◌, ◌≤◌, ◌<◌, Bool, true, false, List, [], ◌∷◌, Option, Some, None, Ok, Err, Result, refl, sym, ap, subst, arith}
+use Rattle.std.proofs.Common.{◌≡◌, ◌≢◌, ◌∙◌, ℕ, ◌+◌, ◌<◌, Bool, true, false, List, [], ◌∷◌, Option, Some, None, Ok, Err, Result, refl, sym, ap, subst, arith}
 use Rattle.std.proofs.lemmas.Bool.{eq-eqb, ne_eqb, or_from}
 use mathlib.Core.Bool.{true≢false}
 use Rattle.std.specs.Prelude.{IsTrue, is_some, nat_eq, ◌||◌, ◌++◌}
@@ -8,7 +8,7 @@ use Rattle.std.specs.List.{AllByRecursion}
 use Rattle.dfs_host.specs.Disk.{Disk, FileState, MayLeave}
 use Rattle.dfs_host.specs.Host.{HostState, LeavesOnly, IsSaying, Only, OnlyReads, SaysNothing, bytes_of}
 use Rattle.dfs_host.proofs.Moments.{goes_on, started, widened}
-use Rattle.dfs_registry.specs.Body.{greatest_job, lists_job}
+use Rattle.dfs_registry.specs.Body.{greatest_job}
 use Rattle.dfs_registry.specs.Reading.{Reading, listing, not_a_registry, damaged, registry as reading}
 use Rattle.dfs_registry.specs.declared.listed.Listed.{Listed}
 use Rattle.dfs_registry.proofs.Standing.{standing_list}
@@ -19,11 +19,11 @@ use Rattle.dfs_script.specs.declared.LineFault.{LineFault}
 use Rattle.dfs_job.specs.declared.job.Job.{Job as LiveJob}
 use Rattle.dfs_session.specs.declared.session.Session.{Session as LiveSession}
 use Rattle.dfs_session.specs.Files.{publications_of, value_on, value_read}
-use Rattle.dfs_session.specs.Session.{Publication, Registry, Session, word_cmp}
+use Rattle.dfs_session.specs.Session.{Registry, Session, word_cmp}
 use Rattle.dfs_session.specs.Sound.{IsLive, IsSound, jobs_of, listed_in, live_in, number_of}
 use Rattle.dfs_session.specs.Stands.{Stands}
 use Rattle.dfs_session.specs.Worked.{job_is, log_and_registry, next_log, none_written, own_log, writes_by, writes_of}
-use Rattle.dfs_session.specs.Writes.{ChangesOnlyThese, FileStays, IsImageBeside, LogsStay, OnlyThese}
+use Rattle.dfs_session.specs.Writes.{ChangesOnlyThese, FileStays, LogsStay, OnlyThese}
 use Rattle.dfs_session.proofs.Jobs.{all_found}
 use Rattle.dfs_session.proofs.Kept.{unlisted_apart}
 use Rattle.dfs_session.proofs.Numbered.{AreNumbered, HasFile, registry_numbered}
@@ -108,14 +108,14 @@ pub logs_idle : (registry : Registry) (host : HostState) → LogsStay registry h
 logs_idle [] host = tt
 logs_idle (p ∷ ps) host = (record { same = refl; images = started host (λ image is. is.files p.job) }, logs_idle ps host)
 
-pub logs_on : {old mid new : HostState} (registry : Registry) → LogsStay registry old mid → LogsStay registry mid new → LogsStay registry old new
-logs_on [] first second = tt
-logs_on (p ∷ ps) first second = (
+pub logs_on : (old mid new : HostState) (registry : Registry) → LogsStay registry old mid → LogsStay registry mid new → LogsStay registry old new
+logs_on old mid new [] first second = tt
+logs_on old mid new (p ∷ ps) first second = (
   record {
     same = second.0.same ∙ first.0.same;
     images = goes_on first.0.images second.0.images (λ image may. subst (λ (file : FileState). MayLeave file (image.files p.job)) first.0.same may);
   },
-  logs_on ps first.1 second.1,
+  logs_on old mid new ps first.1 second.1,
 )
 
 pub logs_said : {old new : HostState} (registry : Registry) (text : List ℕ) → ((n : ℕ) → new.disk.files n ≡ old.disk.files n) → LeavesOnly (IsSaying text old.disk) old new → LogsStay registry old new
@@ -123,9 +123,9 @@ logs_said [] text files images = tt
 logs_said (p ∷ ps) text files images = (record { same = files p.job; images = widened images (λ image is. is.files p.job) }, logs_said ps text files images)
 
 -- those of the first publications
-pub logs_first : {old new : HostState} (registry more : Registry) → LogsStay (registry ++ more) old new → LogsStay registry old new
-logs_first [] more all = tt
-logs_first (p ∷ ps) more all = (all.0, logs_first ps more all.1)
+pub logs_first : (old new : HostState) (registry more : Registry) → LogsStay (registry ++ more) old new → LogsStay registry old new
+logs_first old new [] more all = tt
+logs_first old new (p ∷ ps) more all = (all.0, logs_first old new ps more all.1)
 
 -- ---- no line writes the log of a publication
 
@@ -190,6 +190,6 @@ opened_logs before after registry only tells is = by (reading (bytes_of before 0
     by : (r : Reading) → AreNumbered r → value_read (bytes_of before) r ≡ Some registry → LogsStay registry before after
     by (listing ls) numbered is =
         subst (λ (r : Registry). LogsStay r before after) (same_some (publications_of (bytes_of before) ls) registry is)
-        (listed_stay {λ n. nat_eq n 0} (bytes_of before) ls (apart_free ls 0 numbered) ((one_of_these refl only).content tells))
+        (listed_stay {written = λ n. nat_eq n 0} (bytes_of before) ls (apart_free ls 0 numbered) ((one_of_these refl only).content tells))
     by not_a_registry numbered is = absurd (true≢false (sym (ap is_some is)))
     by (damaged place) numbered is = absurd (true≢false (sym (ap is_some is)))

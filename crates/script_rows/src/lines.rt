@@ -234,7 +234,8 @@ fn the_names_of_snapshots(rt: HostRuntime) -> Result<(), Fail> {
 
 #[test]
 fn the_most_names(rt: HostRuntime) -> Result<(), Fail> {
-    let mut line = vec![in rt.alloc(); b"begin a"]?;
+    let mut line = Vec::new(rt.alloc());
+    line.extend_from_slice(b"begin a")?;
     for _ in 0..64 {
         line.extend_from_slice(b" s")?;
     }

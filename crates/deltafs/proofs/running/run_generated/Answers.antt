@@ -1,6 +1,6 @@
 use Rattle.std.proofs.Common.{List, ℕ, [], ◌≢◌, refl, sym, subst, ◌∙◌, arith}
 use Rattle.dfs_gen.specs.Script.{script}
-use Rattle.dfs_gen.specs.Summary.{Counts}
+use Rattle.dfs_gen.specs.Summary.{summary_text, Counts}
 use Rattle.dfs_host.specs.Host.{LeavesOnly, said_of}
 use Rattle.dfs_host.proofs.Moments.{goes_on}
 use Rattle.dfs_script.specs.Script.{lines_of}
@@ -15,6 +15,7 @@ use Rattle.deltafs.specs.Lines.{Ends, IsAfter, IsCounted}
 use Rattle.deltafs.specs.Summed.{KeepsSummary}
 use Rattle.deltafs.proofs.Hosts.{value_stays}
 use Rattle.deltafs.proofs.Summing.{ends_silent, no_long_script, no_source_fault, summed, sums_now}
+use Rattle.dfs_session.proofs.Writing.{logs_on, logs_said}
 use Rattle.deltafs.proofs.running.run_generated.Goals as goal
 
 pub returns-in-Done-clause-says : goal.returns-in-Done-clause-says
@@ -79,7 +80,7 @@ pub returns-in-Done-clause-logs : goal.returns-in-Done-clause-logs
 returns-in-Done-clause-logs g c old tells start =
     let mid_tells = c.run_script.ensures.cause.tells ∙ tells in
     let first = subst (λ (k : Counts). IsAfter (Gen c.args.creates) old [] (g.H.Host.state c.args.host.now) k c.args.session) (sym c.new-summary.ensures) start in
-    logs_on old (c.run_script.ensures.logs old tells first) (logs_said old (summary_text c.run_script.new.summary) (c.say_summary.ensures.files mid_tells) (c.say_summary.ensures.images mid_tells))
+    logs_on _ _ _ old (c.run_script.ensures.logs old tells first) (logs_said old (summary_text c.run_script.new.summary) (c.say_summary.ensures.files mid_tells) (c.say_summary.ensures.images mid_tells))
 
 pub returns-in_default-clause-logs : goal.returns-in_default-clause-logs
 returns-in_default-clause-logs g c old tells start =

@@ -1,7 +1,7 @@
-use Rattle.std.proofs.Common.{◌≡◌, ◌∙◌, [], Some, Err, refl, ap, subst, sym}
+use Rattle.std.proofs.Common.{◌≡◌, ◌∙◌, [], Some, Err, refl, ap, subst, sym, inr}
 use Rattle.dfs_gen.specs.Summary.{Counts}
-use Rattle.dfs_host.specs.Host.{said_of}
-use Rattle.dfs_host.proofs.Moments.{goes_on}
+use Rattle.dfs_host.specs.Host.{said_of, bytes_of}
+use Rattle.dfs_host.proofs.Moments.{goes_on, reads_nothing, silent_only}
 use Rattle.dfs_session.specs.Files.{value_on}
 use Rattle.deltafs.specs.declared.status.Status.{Status}
 use Rattle.deltafs.specs.declared.status.Status.TheVariants.{NoMemory}
@@ -14,8 +14,9 @@ use Rattle.deltafs.specs.Says.{Untaken}
 use Rattle.deltafs.specs.Words.{command_of}
 use Rattle.deltafs.proofs.Completing.{completes_gen, completes_run, completes_unopened, disk_unopened, no_disk_fault, no_output_fault, no_source_fault, no_words, none_by, tells_isolated}
 use Rattle.deltafs.proofs.Faults.{limit_unopened, takes_none}
-use Rattle.deltafs.proofs.Leaving.{idle, opened_first, opening, prompt_idle, shut_idle}
-use Rattle.deltafs.proofs.Starting.{gen_run, says_nothing, says_unopened, some_none}
+use Rattle.deltafs.proofs.Leaving.{idle, opened_first, opening, prompt_idle}
+use Rattle.deltafs.proofs.Starting.{gen_run, says_nothing, says_unopened, some_none, is_shut}
+use Rattle.dfs_session.proofs.Writing.{logs_idle, logs_on, opened_logs}
 use Rattle.deltafs.proofs.running.run_within.Goals as goal
 
 -- The script of the source.
@@ -244,7 +245,7 @@ returns-in-Run-clause-logs g c old start =
     let mid = g.H.Host.state c.open.new.host in
     let kept = (silent_only c.open.ensures.only).content start.host_tells in
     let first = opened_first (command_of c.args.words.now) old host source start Run mid c.in-Ok-open.session kept (c.in-Ok-open.ensures.stands old start.host_tells start.settled start.value) (c.open.ensures.value start.host_tells (start.settled 0)) in
-    logs_on old (opened_logs host mid old c.open.ensures.only start.host_tells start.value)
+    logs_on _ _ _ old (opened_logs host mid old c.open.ensures.only start.host_tells start.value)
     (c.run_script.ensures.logs old (c.open.ensures.cause.tells ∙ start.host_tells) (subst (λ (k : Counts). IsAfter Run old [] mid k c.in-Ok-open.session) (sym c.new-summary.ensures) first))
 
 pub returns-in-Gen-clause-logs : goal.returns-in-Gen-clause-logs
@@ -254,7 +255,7 @@ returns-in-Gen-clause-logs g c old start =
     let mid = g.H.Host.state c.open.new.host in
     let kept = (silent_only c.open.ensures.only).content start.host_tells in
     let first = opened_first (command_of c.args.words.now) old host source start (Gen c.in-Gen.creates) mid c.in-Ok-open.session kept (c.in-Ok-open.ensures.stands old start.host_tells start.settled start.value) (c.open.ensures.value start.host_tells (start.settled 0)) in
-    logs_on old (opened_logs host mid old c.open.ensures.only start.host_tells start.value) (c.run_generated.ensures.logs old (c.open.ensures.cause.tells ∙ start.host_tells) first)
+    logs_on _ _ _ old (opened_logs host mid old c.open.ensures.only start.host_tells start.value) (c.run_generated.ensures.logs old (c.open.ensures.cause.tells ∙ start.host_tells) first)
 
 pub returns-in-Err-clause-logs : goal.returns-in-Err-clause-logs
 returns-in-Err-clause-logs g c old start = opened_logs (g.H.Host.state c.args.host.now) (g.H.Host.state c.open.new.host) old c.open.ensures.only start.host_tells start.value

@@ -10,6 +10,7 @@ use Rattle.deltafs.specs.Lines.{IsOfLine, Leaves, SaysText}
 use Rattle.deltafs.proofs.Faults.{on_ok, leaves_said, output_alone, says_reply}
 use Rattle.deltafs.proofs.Hosts.{sound_stays, stands_stays, value_stays}
 use Rattle.deltafs.proofs.Leaving.{stepped, replied}
+use Rattle.dfs_session.proofs.Writing.{logs_on, logs_said, silent_these}
 use Rattle.deltafs.proofs.running.work_line.Goals as goal
 
 pub returns-in-Run-clause-ready : goal.returns-in-Run-clause-ready
@@ -86,4 +87,4 @@ returns-clause-grows g c tells = record { more = []; said = ((silent_these c.ste
 pub returns-in-Run-clause-logs : goal.returns-in-Run-clause-logs
 returns-in-Run-clause-logs g c s tells stands =
     let mid_tells = c.step.ensures.cause.tells ∙ tells in
-    logs_on s.registry (c.step.ensures.logs s tells stands) (logs_said s.registry c.deref.result.now (c.say.ensures.files mid_tells) (c.say.ensures.images mid_tells))
+    logs_on _ _ _ s.registry (c.step.ensures.logs s tells stands) (logs_said s.registry c.deref.result.now (c.say.ensures.files mid_tells) (c.say.ensures.images mid_tells))

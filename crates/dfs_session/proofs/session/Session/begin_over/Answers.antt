@@ -20,6 +20,7 @@ use Rattle.dfs_session.proofs.Lists.{mapped, when_ok}
 use Rattle.dfs_session.proofs.Images.{read_images}
 use Rattle.dfs_session.proofs.Values.{stands_value}
 use Rattle.dfs_session.proofs.Working.{same_sound}
+use Rattle.dfs_session.proofs.Writing.{next_written, one_of_these, reads_these}
 use Rattle.dfs_session.proofs.session.Session.begin_over.Goals as goal
 
 pub returns-in_err-reply : goal.returns-in_err-reply

@@ -17,6 +17,7 @@ use Rattle.dfs_session.proofs.Changing.{answered_worked, changed_stands, fault_w
 use Rattle.dfs_session.proofs.Handed.{none_unless}
 use Rattle.dfs_session.proofs.Selecting.{no_fault}
 use Rattle.dfs_session.proofs.Working.{stays_in_memory}
+use Rattle.dfs_session.proofs.Writing.{own_written}
 use Rattle.dfs_session.proofs.session.Session.flush.Goals as goal
 
 pub flush-requires : goal.flush-requires

@@ -21,6 +21,7 @@ use Rattle.dfs_session.proofs.Changing.{answered_worked, changed_stands, fault_w
 use Rattle.dfs_session.proofs.Handed.{none_unless, told_no_job}
 use Rattle.dfs_session.proofs.Selecting.{no_fault}
 use Rattle.dfs_session.proofs.Working.{stays_in_memory}
+use Rattle.dfs_session.proofs.Writing.{own_written}
 use Rattle.dfs_session.proofs.session.Session.operate.Goals as goal
 
 pub op-requires-clause-sound : goal.op-requires-clause-sound

@@ -24,6 +24,7 @@ use Rattle.dfs_session.proofs.Changing.{answered_worked, changed_stands, fault_w
 use Rattle.dfs_session.proofs.Handed.{none_unless, part_error}
 use Rattle.dfs_session.proofs.Selecting.{no_fault}
 use Rattle.dfs_session.proofs.Working.{on_ok_by, stays_in_memory}
+use Rattle.dfs_session.proofs.Writing.{own_written}
 use Rattle.dfs_session.proofs.session.Session.part.Goals as goal
 
 pub part-requires : goal.part-requires

@@ -24,6 +24,7 @@ use Rattle.dfs_session.proofs.Jobs.{Live, remove_set}
 use Rattle.dfs_session.proofs.Publishing.{in_range, published_worked, unlisted_worked}
 use Rattle.dfs_session.proofs.Selecting.{no_fault}
 use Rattle.dfs_session.proofs.Working.{memory_cause, stays_in_memory}
+use Rattle.dfs_session.proofs.Writing.{log_written}
 use Rattle.dfs_session.proofs.session.Session.publish_anew.Goals as goal
 
 pub returns-in_default-clause-worked : goal.returns-in_default-clause-worked

@@ -10,6 +10,7 @@ use Rattle.dfs_session.proofs.Faults.{sound_refused}
 use Rattle.dfs_session.proofs.Images.{read_images}
 use Rattle.dfs_session.proofs.Values.{stands_value}
 use Rattle.dfs_session.proofs.Working.{on_ok, same_names, worked_by_memory}
+use Rattle.dfs_session.proofs.Writing.{reads_these}
 use Rattle.dfs_session.proofs.session.Session.set.Goals as goal
 
 pub returns-clause-worked : goal.returns-clause-worked

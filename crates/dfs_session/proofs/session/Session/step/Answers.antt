@@ -1,7 +1,9 @@
+use Rattle.dfs_script.specs.Line.{meaning}
 use Rattle.std.proofs.Common.{◌∙◌, sym, subst}
 use Rattle.dfs_session.specs.Session.{step as step_of}
 use Rattle.dfs_session.specs.Worked.{quiet_by}
 use Rattle.dfs_session.proofs.Images.{image_holds}
+use Rattle.dfs_session.proofs.Writing.{logs_stay}
 use Rattle.dfs_session.proofs.session.Session.step.Goals as goal
 
 pub returns-in-Ok-clause-durable : goal.returns-in-Ok-clause-durable

@@ -15,6 +15,7 @@ use Rattle.dfs_session.proofs.Faults.{sound_refused}
 use Rattle.dfs_session.proofs.Images.{read_images}
 use Rattle.dfs_session.proofs.Values.{stands_value}
 use Rattle.dfs_session.proofs.Working.{stays_in_memory}
+use Rattle.dfs_session.proofs.Writing.{reads_these}
 use Rattle.dfs_session.proofs.session.Session.tell_snapshots.Goals as goal
 
 pub returns-in_err-list-clause-worked : goal.returns-in_err-list-clause-worked

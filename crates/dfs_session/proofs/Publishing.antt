@@ -91,6 +91,10 @@ in_range before session word live sound found =
     let lives = was_live before before session word live sound found in
     and_from _ _ (le-leb 1 live.ids.job lives.fit.ids.job) (le-leb live.ids.job 4294967294 (omega (arith, lives.numbered, sound.memory.greatest)))
 
+-- the log of a live job is not file 0
+pub no_registry : (before : HostState) (session : LiveSession) (word : JobWord) (live : LiveJob) → IsSound before session → live_in session word ≡ Some live → 0 ≢ live.ids.job
+no_registry before session word live sound found same = absurd (omega (arith, same, (was_live before before session word live sound found).fit.ids.job))
+
 -- ---- the images while the registry is written
 
 module _ (before mid after : HostState) (session : LiveSession) (word : JobWord) (live : LiveJob) (sound : IsSound before session) (found : live_in session word ≡ Some live)

@@ -104,9 +104,18 @@ log_written session w live found = by (nat_eq live.ids.job 0) (own_written sessi
 pub file_stays : {written : ℕ → Bool} {old new : HostState} (n : ℕ) → written n ≡ false → ChangesOnlyThese written old new → FileStays n old new
 file_stays n free changes = record { same = changes.others n free; images = widened changes.images (λ image is. is.files n free) }
 
+pub file_idle : (n : ℕ) (host : HostState) → FileStays n host host
+file_idle n host = record { same = refl; images = started host (λ image is. is.files n) }
+
+-- a call that writes another file alone
+pub other_stays : {old new : HostState} (n k : ℕ) → n ≢ k → Only k old new → IsTrue old.tells → FileStays n old new
+other_stays n k apart only tells =
+    let changes = only.content tells in
+    record { same = changes.others n apart; images = widened changes.images (λ image with. with.others.files n apart) }
+
 pub logs_idle : (registry : Registry) (host : HostState) → LogsStay registry host host
 logs_idle [] host = tt
-logs_idle (p ∷ ps) host = (record { same = refl; images = started host (λ image is. is.files p.job) }, logs_idle ps host)
+logs_idle (p ∷ ps) host = (file_idle p.job host, logs_idle ps host)
 
 pub logs_on : (old mid new : HostState) (registry : Registry) → LogsStay registry old mid → LogsStay registry mid new → LogsStay registry old new
 logs_on old mid new [] first second = tt
@@ -161,6 +170,22 @@ module _ (host : HostState) (session : LiveSession) (sound : IsSound host sessio
       by (Some live) is =
           let lives = all_found (λ x. IsLive session.greatest (listed_in session) x) (is_at (word_cmp w)) (jobs_of session) live sound.memory.jobs is in
           apart_free (listed_in session) (number_of live) (unlisted_apart (listed_in session) (number_of live) lives.unlisted)
+
+  -- no log is file 0
+  pub own_registry : (w : JobWord) → own_log session w 0 ≡ false
+  own_registry w = by (live_in session w) refl
+    where
+      by : (o : Option LiveJob) → live_in session w ≡ o → job_is (λ j. nat_eq 0 (number_of j)) o ≡ false
+      by None is = refl
+      by (Some live) is =
+          let lives = all_found (λ x. IsLive session.greatest (listed_in session) x) (is_at (word_cmp w)) (jobs_of session) live sound.memory.jobs is in
+          ne_eqb 0 (number_of live) (λ same. absurd (omega (arith, same, lives.fit.ids.job)))
+
+  pub log_leaves_registry : (w : JobWord) (after : HostState) → OnlyThese (own_log session w) host after → FileStays 0 host after
+  log_leaves_registry w after only = file_stays 0 (own_registry w) (only.content tells)
+
+  pub begin_leaves_registry : (after : HostState) → OnlyThese (next_log session) host after → FileStays 0 host after
+  begin_leaves_registry after only = file_stays 0 (ne_eqb 0 (session.greatest + 1) (λ same. absurd (omega (arith, same)))) (only.content tells)
 
   line_free : (line : Line) → AreFree (writes_of line session) (listed_in session)
   line_free Nothing = none_free (listed_in session)

@@ -74,7 +74,7 @@ impl Session {
     ghost use Rattle.dfs_job.specs.Stands.{AreSettings};
     ghost use Rattle.dfs_session.specs.Stands.{Stands, LeavesValue};
     ghost use Rattle.dfs_session.specs.Worked.{AreNamed, OpensAs, IsFromMemory, IsPast, IsRefusedAtOnce, IsShort, IsWorked, StaysInMemory, from_memory, has_refused, job_by, log_by, many_by, names_by, of_command, of_line, passes_by, passes_of, refused_at_once, settings_by, writes_by};
-    ghost use Rattle.dfs_session.specs.Writes.{LogsStay, OnlyThese};
+    ghost use Rattle.dfs_session.specs.Writes.{FileStays, LogsStay, OnlyThese};
 
     /// Opens the registry of a host. Jobs that begin are given the settings.
     pub fn open<H: Host>(
@@ -137,6 +137,8 @@ impl Session {
         // No file is written but the log of the line's job and, by a publication, the registry. So the log of no publication is.
         ensures writes { OnlyThese (writes_by (meaning line.now) self.old) (H.state host.old) (H.state host.new) }
         ensures logs { (s : PlainSession) → Told (H.state host.old) (Stands (H.state host.old) self.old s → LogsStay s.registry (H.state host.old) (H.state host.new)) }
+        // Want of memory comes before the registry is touched: a publication that ends so leaves its file as it was.
+        ensures memory { Told (H.state host.old) (IsErrOf result Fault.NoMemory → FileStays 0 (H.state host.old) (H.state host.new)) }
         ensures cause { HasFaultCause (H.state host.old) (H.state host.new) result }
         // `LogFull` exactly where the log of the line's job refused a piece or the run that the line merges would pass 131,072 tables,
         // but for want of memory and a disk fault; on a host that tells nothing, only where by counts it may need more. And only
@@ -173,6 +175,7 @@ impl Session {
         ensures too_many { (s : PlainSession) → Told (H.state host.old) (Stands (H.state host.old) self.old s → passes_by (meaning line.now) s self.old → OnOk result ⊥) }
         ensures at_once { (s : PlainSession) → Told (H.state host.old) (Stands (H.state host.old) self.old s → refused_at_once (meaning line.now) (step_of s line.now).reply → StaysInMemory result (H.state host.old) (H.state host.new)) }
         ensures in_memory { from_memory (meaning line.now) → StaysInMemory result (H.state host.old) (H.state host.new) }
+        ensures memory { Told (H.state host.old) (IsErrOf result Fault.NoMemory → FileStays 0 (H.state host.old) (H.state host.new)) }
     {
         match read_line(self.alloc, line) {
             Ok(line) => self.obey(host, line),
@@ -190,6 +193,7 @@ impl Session {
         ensures too_many { (s : PlainSession) → Told (H.state host.old) (Stands (H.state host.old) self.old s → passes_of line s self.old → OnOk result ⊥) }
         ensures at_once { (s : PlainSession) → Told (H.state host.old) (Stands (H.state host.old) self.old s → IsRefusedAtOnce (line) (after_command s line).reply → StaysInMemory result (H.state host.old) (H.state host.new)) }
         ensures in_memory { IsFromMemory line → StaysInMemory result (H.state host.old) (H.state host.new) }
+        ensures memory { Told (H.state host.old) (IsErrOf result Fault.NoMemory → FileStays 0 (H.state host.old) (H.state host.new)) }
     {
         match line {
             Line::Nothing => text_of(self.alloc, &Reply::Nothing),

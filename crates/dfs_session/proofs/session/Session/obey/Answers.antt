@@ -4,6 +4,7 @@ use Rattle.dfs_script.specs.declared.Line.{Line}
 use Rattle.dfs_script.specs.declared.Line.TheVariants.{Nothing}
 use Rattle.dfs_session.specs.Worked.{IsWorked, of_command}
 use Rattle.dfs_session.proofs.Working.{stays_in_memory}
+use Rattle.dfs_session.proofs.Writing.{begin_leaves_registry, file_idle, log_leaves_registry}
 use Rattle.dfs_session.proofs.session.Session.obey.Goals as goal
 
 pub returns-in-Nothing-clause-worked : goal.returns-in-Nothing-clause-worked
@@ -34,3 +35,33 @@ pub returns-in-End-clause-worked : goal.returns-in-End-clause-worked
 returns-in-End-clause-worked g c =
     let host = g.H.Host.state c.args.host.now in
     subst (λ (line : Line). IsWorked (of_command line) host host c.args.self.now c.end.new.self c.end.result) (sym c.in-End.is) (c.end.ensures.worked host c.requires.sound)
+
+pub returns-in-Nothing-clause-memory : goal.returns-in-Nothing-clause-memory
+returns-in-Nothing-clause-memory g c = λ tells is. file_idle 0 (g.H.Host.state c.args.host.now)
+
+pub returns-in-Set-clause-memory : goal.returns-in-Set-clause-memory
+returns-in-Set-clause-memory g c = λ tells is. file_idle 0 (g.H.Host.state c.args.host.now)
+
+pub returns-in-Snapshots-clause-memory : goal.returns-in-Snapshots-clause-memory
+returns-in-Snapshots-clause-memory g c = λ tells is. file_idle 0 (g.H.Host.state c.args.host.now)
+
+pub returns-in-Stats-clause-memory : goal.returns-in-Stats-clause-memory
+returns-in-Stats-clause-memory g c = λ tells is. file_idle 0 (g.H.Host.state c.args.host.now)
+
+pub returns-in-End-clause-memory : goal.returns-in-End-clause-memory
+returns-in-End-clause-memory g c = λ tells is. file_idle 0 (g.H.Host.state c.args.host.now)
+
+pub returns-in-Begin-clause-memory : goal.returns-in-Begin-clause-memory
+returns-in-Begin-clause-memory g c = λ tells is. begin_leaves_registry (g.H.Host.state c.args.host.now) c.args.self.now c.requires.sound tells (g.H.Host.state c.begin.new.host) c.begin.ensures.worked.writes
+
+pub returns-in-Space-clause-memory : goal.returns-in-Space-clause-memory
+returns-in-Space-clause-memory g c = λ tells is. log_leaves_registry (g.H.Host.state c.args.host.now) c.args.self.now c.requires.sound tells c.in-Space.job (g.H.Host.state c.operate.new.host) c.operate.ensures.worked.writes
+
+pub returns-in-Flush-clause-memory : goal.returns-in-Flush-clause-memory
+returns-in-Flush-clause-memory g c = λ tells is. log_leaves_registry (g.H.Host.state c.args.host.now) c.args.self.now c.requires.sound tells c.in-Flush.job (g.H.Host.state c.flush.new.host) c.flush.ensures.worked.writes
+
+pub returns-in-Plan-clause-memory : goal.returns-in-Plan-clause-memory
+returns-in-Plan-clause-memory g c = λ tells is. log_leaves_registry (g.H.Host.state c.args.host.now) c.args.self.now c.requires.sound tells c.in-Plan.job (g.H.Host.state c.plan.new.host) c.plan.ensures.worked.writes
+
+pub returns-in-Part-clause-memory : goal.returns-in-Part-clause-memory
+returns-in-Part-clause-memory g c = λ tells is. log_leaves_registry (g.H.Host.state c.args.host.now) c.args.self.now c.requires.sound tells c.in-Part.job (g.H.Host.state c.part.new.host) c.part.ensures.worked.writes

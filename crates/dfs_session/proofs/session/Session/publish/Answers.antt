@@ -15,6 +15,7 @@ use Rattle.dfs_session.proofs.Choosing.{publishes_as, publishes_as_anew, any_fou
 use Rattle.dfs_host.proofs.Moments.{reads_nothing}
 use Rattle.dfs_session.proofs.Lists.{lent_some}
 use Rattle.dfs_session.proofs.Working.{stays_in_memory}
+use Rattle.dfs_session.proofs.Writing.{file_idle}
 use Rattle.dfs_session.proofs.session.Session.publish.Goals as goal
 
 pub returns-then-not-contains_key-clause-worked : goal.returns-then-not-contains_key-clause-worked
@@ -118,3 +119,12 @@ returns-clause-at_once g c = λ s tells stands is.
     let anew : false ≡ is_listed (listed_in session) name = c.if-is_some.ensures ∙ sym (lent_some c.find.result) ∙ ap is_some c.find.ensures in
     let few : false ≡ nat_le 4096 (length (listed_in session)) = sym (lt-leb 4096 (length (listed_in session)) (omega (arith, c.if-count-ge-MOST_PUBLICATIONS.false, c.count.ensures.count))) in
     absurd (not_refused session s w name stands (found_job host session s w live.0 stands live.1) anew few is)
+
+pub returns-then-not-contains_key-clause-memory : goal.returns-then-not-contains_key-clause-memory
+returns-then-not-contains_key-clause-memory g c = λ tells is. file_idle 0 (g.H.Host.state c.args.host.now)
+
+pub returns-then-is_some-clause-memory : goal.returns-then-is_some-clause-memory
+returns-then-is_some-clause-memory g c = λ tells is. file_idle 0 (g.H.Host.state c.args.host.now)
+
+pub returns-then-count-ge-MOST_PUBLICATIONS-clause-memory : goal.returns-then-count-ge-MOST_PUBLICATIONS-clause-memory
+returns-then-count-ge-MOST_PUBLICATIONS-clause-memory g c = λ tells is. file_idle 0 (g.H.Host.state c.args.host.now)

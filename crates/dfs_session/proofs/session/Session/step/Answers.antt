@@ -21,3 +21,6 @@ returns-in-Ok-clause-logs g c = λ s tells stands. logs_stay (g.H.Host.state c.a
 
 pub returns-in-Err-clause-logs : goal.returns-in-Err-clause-logs
 returns-in-Err-clause-logs g c = λ s tells stands. logs_stay (g.H.Host.state c.args.host.now) c.args.self.now c.requires tells (meaning c.args.line.now) s (g.H.Host.state c.work.new.host) stands c.work.ensures.worked.writes
+
+pub returns-in-Err-clause-memory : goal.returns-in-Err-clause-memory
+returns-in-Err-clause-memory g c = λ tells is. c.work.ensures.memory tells (c.in-Err.is ∙ is)

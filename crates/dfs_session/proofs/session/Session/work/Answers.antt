@@ -14,6 +14,7 @@ use Rattle.dfs_host.proofs.Moments.{reads_nothing}
 use Rattle.dfs_session.specs.Worked.{of_line, settings_by}
 use Rattle.dfs_session.proofs.Handed.{memory_not_full}
 use Rattle.dfs_session.proofs.Working.{memory_cause, stays_in_memory}
+use Rattle.dfs_session.proofs.Writing.{file_idle}
 use Rattle.dfs_session.proofs.session.Session.work.Goals as goal
 
 pub returns-in-Err-Long-clause-worked : goal.returns-in-Err-Long-clause-worked
@@ -37,3 +38,12 @@ returns-in-Err-NoMemory-clause-worked g c =
     let host = g.H.Host.state c.args.host.now in
     let session = c.args.self.now in
     read_fault_worked {T = Vec ℕ} host host session (of_line c.args.line.now) NoMemory c.requires (reads_nothing host) (memory_cause (Err NoMemory) (none_yet host) refl) memory_not_full
+
+pub returns-in-Err-Long-clause-memory : goal.returns-in-Err-Long-clause-memory
+returns-in-Err-Long-clause-memory g c = λ tells is. file_idle 0 (g.H.Host.state c.args.host.now)
+
+pub returns-in-Err-Syntax-clause-memory : goal.returns-in-Err-Syntax-clause-memory
+returns-in-Err-Syntax-clause-memory g c = λ tells is. file_idle 0 (g.H.Host.state c.args.host.now)
+
+pub returns-in-Err-NoMemory-clause-memory : goal.returns-in-Err-NoMemory-clause-memory
+returns-in-Err-NoMemory-clause-memory g c = λ tells is. file_idle 0 (g.H.Host.state c.args.host.now)

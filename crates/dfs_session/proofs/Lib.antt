@@ -9,6 +9,7 @@ mod Faults
 mod Jobs
 pub mod Kept
 mod Handed
+mod Looking
 pub mod Writing
 mod Working
 mod Changing

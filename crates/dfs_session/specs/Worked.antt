@@ -103,6 +103,52 @@ abbrev pub refused_at_once : Result Line LineFault → Reply → Type 0
 refused_at_once (Ok line) reply = IsRefusedAtOnce line reply
 refused_at_once (Err fault) reply = IsError reply
 
+-- the reply of a line that is refused, also for a damaged snapshot
+abbrev pub IsRefusal : Reply → Type 0
+IsRefusal NoReply = ⊥
+IsRefusal OkReply = ⊥
+IsRefusal (JobReply job) = ⊥
+IsRefusal (StatReply entry) = ⊥
+IsRefusal (ListingReply entries) = ⊥
+IsRefusal (SnapshotsReply snapshots) = ⊥
+IsRefusal MergedReply = ⊥
+IsRefusal (StatsReply runs records) = ⊥
+IsRefusal (PublishedReply name count) = ⊥
+IsRefusal (DamagedReply name) = Unit {0}
+IsRefusal (Error w) = Unit {0}
+
+-- the reply of an operation that makes no record: a refusal, an entry or a listing
+abbrev pub IsSeen : Reply → Type 0
+IsSeen NoReply = ⊥
+IsSeen OkReply = ⊥
+IsSeen (JobReply job) = ⊥
+IsSeen (StatReply entry) = Unit {0}
+IsSeen (ListingReply entries) = Unit {0}
+IsSeen (SnapshotsReply snapshots) = ⊥
+IsSeen MergedReply = ⊥
+IsSeen (StatsReply runs records) = ⊥
+IsSeen (PublishedReply name count) = ⊥
+IsSeen (DamagedReply name) = ⊥
+IsSeen (Error w) = Unit {0}
+
+-- The line changes nothing: it is refused, or it only looks at what its job sees.
+abbrev pub ChangesNone : Line → Reply → Type 0
+ChangesNone Nothing reply = IsError reply
+ChangesNone (Set what value) reply = IsError reply
+ChangesNone Snapshots reply = IsError reply
+ChangesNone (Begin w names) reply = IsRefusal reply
+ChangesNone (Space w op) reply = IsSeen reply
+ChangesNone (Flush w) reply = IsError reply
+ChangesNone (Plan w scope parts) reply = IsError reply
+ChangesNone (Part w part) reply = IsError reply
+ChangesNone (Stats w) reply = IsError reply
+ChangesNone (Publish w name) reply = IsError reply
+ChangesNone (End w) reply = IsError reply
+
+abbrev pub changes_none : Result Line LineFault → Reply → Type 0
+changes_none (Ok line) reply = ChangesNone line reply
+changes_none (Err fault) reply = IsError reply
+
 -- what the line asks for is in the session
 abbrev pub IsFromMemory : Line → Type 0
 IsFromMemory Nothing = Unit {0}

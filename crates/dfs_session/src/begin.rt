@@ -18,7 +18,7 @@ const LAST_JOB: u32 = 4_294_967_294;
 impl Session {
     ghost use Rattle.std.specs.Prelude.{◌≡◌, ◌<◌, nat_le, ◌||◌, List, length, map, None};
     ghost use Rattle.std.specs.List.{AllByRecursion, AllZip, list_all};
-    ghost use Rattle.dfs_host.specs.Host.{Told};
+    ghost use Rattle.dfs_host.specs.Host.{OnlyReads, Told};
     ghost use Rattle.dfs_record.specs.Delta.{Delta};
     ghost use Rattle.dfs_job.specs.Stands.{IsStoredFor};
     ghost use Rattle.dfs_session.specs.Kept.{IsInside, IsOwn};
@@ -27,7 +27,7 @@ impl Session {
     ghost use Rattle.dfs_script.specs.declared.Line.TheVariants.{Begin};
     ghost use Rattle.dfs_session.specs.Session.{Session as PlainSession, begins};
     ghost use Rattle.dfs_session.specs.Stands.{Stands};
-    ghost use Rattle.dfs_session.specs.Worked.{IsRefusedAtOnce, IsWorked, StaysInMemory, beginning, beginning_over};
+    ghost use Rattle.dfs_session.specs.Worked.{IsRefusal, IsRefusedAtOnce, IsWorked, StaysInMemory, beginning, beginning_over};
 
     /// Begins a job over the publications of the names.
     pub(crate) fn begin<H: Host>(
@@ -39,6 +39,7 @@ impl Session {
         requires { IsSound (H.state host.old) self.old }
         ensures worked { IsWorked (beginning word names.now) (H.state host.old) (H.state host.new) self.old self.new result }
         ensures at_once { (s : PlainSession) → Told (H.state host.old) (Stands (H.state host.old) self.old s → IsRefusedAtOnce (Begin word names.now) (begins s word names.now).reply → StaysInMemory result (H.state host.old) (H.state host.new)) }
+        ensures looks { (s : PlainSession) → Told (H.state host.old) (Stands (H.state host.old) self.old s → IsRefusal (begins s word names.now).reply → OnlyReads (H.state host.old) (H.state host.new)) }
     {
         if self.jobs.contains_key(&word) {
             return text_of(self.alloc, &Reply::Error(Word::LiveJob));

@@ -78,7 +78,7 @@ fn snapshots(alloc: Global, registry: &Registry) -> Result<SnapList, Fault>
 
 impl Session {
     ghost use Rattle.std.specs.Prelude.{◌≡◌, IfErr, IfSome, IsTrue, OnOk};
-    ghost use Rattle.dfs_host.specs.Host.{Told};
+    ghost use Rattle.dfs_host.specs.Host.{OnlyReads, Told};
     ghost use Rattle.dfs_path.specs.Op.{IsOp};
     ghost use Rattle.dfs_script.specs.Scopes.{is_parts};
     ghost use Rattle.dfs_script.specs.declared.Line.TheVariants.{Flush, Part, Plan, Space};
@@ -86,7 +86,7 @@ impl Session {
     ghost use Rattle.dfs_session.specs.Session.{Session as PlainSession, ends, flushes, live_job, merges, operates_for, plans, tells_snapshots, tells_stats};
     ghost use Rattle.dfs_session.specs.Sound.{IsSound, IsSoundInMemory, live_in};
     ghost use Rattle.dfs_session.specs.Stands.{Stands};
-    ghost use Rattle.dfs_session.specs.Worked.{IsRefusedAtOnce, IsWorked, PartPasses, StaysInMemory, IsWorkedInMemory, flushing, merging, operating, plain, planning, setting};
+    ghost use Rattle.dfs_session.specs.Worked.{IsRefusedAtOnce, IsSeen, IsWorked, PartPasses, StaysInMemory, IsWorkedInMemory, flushing, merging, operating, plain, planning, setting};
 
     /// Sets what jobs that begin later are given.
     pub(crate) fn set(&mut self, what: Setting, value: u64) -> Result<Vec<u8>, Fault>
@@ -120,6 +120,7 @@ impl Session {
         requires op { IsOp op.now }
         ensures worked { IsWorked (operating word.now op.now) (H.state host.old) (H.state host.new) self.old self.new result }
         ensures at_once { (s : PlainSession) → Told (H.state host.old) (Stands (H.state host.old) self.old s → IsRefusedAtOnce (Space word.now op.now) (operates_for s word.now op.now).reply → StaysInMemory result (H.state host.old) (H.state host.new)) }
+        ensures looks { (s : PlainSession) → Told (H.state host.old) (Stands (H.state host.old) self.old s → IsSeen (operates_for s word.now op.now).reply → OnlyReads (H.state host.old) (H.state host.new)) }
     {
         let Some(job) = self.jobs.get_mut(word) else {
             return text_of(self.alloc, &Reply::Error(Word::NoJob));

@@ -73,7 +73,7 @@ impl Session {
     ghost use Rattle.dfs_session.specs.Sound.{IsSound, jobs_of};
     ghost use Rattle.dfs_job.specs.Stands.{AreSettings};
     ghost use Rattle.dfs_session.specs.Stands.{Stands, LeavesValue};
-    ghost use Rattle.dfs_session.specs.Worked.{AreNamed, OpensAs, IsFromMemory, IsPast, IsRefusedAtOnce, IsShort, IsWorked, StaysInMemory, from_memory, has_refused, job_by, log_by, many_by, names_by, of_command, of_line, passes_by, passes_of, refused_at_once, settings_by, writes_by};
+    ghost use Rattle.dfs_session.specs.Worked.{AreNamed, ChangesNone, OpensAs, IsFromMemory, IsPast, IsRefusedAtOnce, IsShort, IsWorked, StaysInMemory, changes_none, from_memory, has_refused, job_by, log_by, many_by, names_by, of_command, of_line, passes_by, passes_of, refused_at_once, settings_by, writes_by};
     ghost use Rattle.dfs_session.specs.Writes.{FileStays, LogsStay, OnlyThese};
 
     /// Opens the registry of a host. Jobs that begin are given the settings.
@@ -147,6 +147,8 @@ impl Session {
         ensures too_many { (s : PlainSession) → Told (H.state host.old) (Stands (H.state host.old) self.old s → passes_by (meaning line.now) s self.old → OnOk result ⊥) }
         // A line that is refused by what the session has in memory meets no fault but want of memory, and makes no call on the host.
         ensures at_once { (s : PlainSession) → Told (H.state host.old) (Stands (H.state host.old) self.old s → refused_at_once (meaning line.now) (step_of s line.now).reply → StaysInMemory result (H.state host.old) (H.state host.new)) }
+        // A line that is refused, a damaged snapshot among the causes, and one that only looks at what its job sees write nothing.
+        ensures looks { (s : PlainSession) → Told (H.state host.old) (Stands (H.state host.old) self.old s → changes_none (meaning line.now) (step_of s line.now).reply → OnlyReads (H.state host.old) (H.state host.new)) }
         // A line that asks for nothing but what the session has meets no other fault on any host, and makes no call.
         ensures in_memory { from_memory (meaning line.now) → StaysInMemory result (H.state host.old) (H.state host.new) }
         ensures full { IsErrOf result Fault.LogFull → IsTrue (log_by (meaning line.now) (jobs_of self.new)) ⊎ IsTrue (many_by (meaning line.now) self.old) }
@@ -174,6 +176,7 @@ impl Session {
         ensures worked { IsWorked (of_line line.now) (H.state host.old) (H.state host.new) self.old self.new result }
         ensures too_many { (s : PlainSession) → Told (H.state host.old) (Stands (H.state host.old) self.old s → passes_by (meaning line.now) s self.old → OnOk result ⊥) }
         ensures at_once { (s : PlainSession) → Told (H.state host.old) (Stands (H.state host.old) self.old s → refused_at_once (meaning line.now) (step_of s line.now).reply → StaysInMemory result (H.state host.old) (H.state host.new)) }
+        ensures looks { (s : PlainSession) → Told (H.state host.old) (Stands (H.state host.old) self.old s → changes_none (meaning line.now) (step_of s line.now).reply → OnlyReads (H.state host.old) (H.state host.new)) }
         ensures in_memory { from_memory (meaning line.now) → StaysInMemory result (H.state host.old) (H.state host.new) }
         ensures memory { Told (H.state host.old) (IsErrOf result Fault.NoMemory → FileStays 0 (H.state host.old) (H.state host.new)) }
     {
@@ -192,6 +195,7 @@ impl Session {
         ensures worked { IsWorked (of_command line) (H.state host.old) (H.state host.new) self.old self.new result }
         ensures too_many { (s : PlainSession) → Told (H.state host.old) (Stands (H.state host.old) self.old s → passes_of line s self.old → OnOk result ⊥) }
         ensures at_once { (s : PlainSession) → Told (H.state host.old) (Stands (H.state host.old) self.old s → IsRefusedAtOnce (line) (after_command s line).reply → StaysInMemory result (H.state host.old) (H.state host.new)) }
+        ensures looks { (s : PlainSession) → Told (H.state host.old) (Stands (H.state host.old) self.old s → ChangesNone line (after_command s line).reply → OnlyReads (H.state host.old) (H.state host.new)) }
         ensures in_memory { IsFromMemory line → StaysInMemory result (H.state host.old) (H.state host.new) }
         ensures memory { Told (H.state host.old) (IsErrOf result Fault.NoMemory → FileStays 0 (H.state host.old) (H.state host.new)) }
     {

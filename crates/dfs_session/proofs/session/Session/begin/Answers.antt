@@ -24,6 +24,9 @@ use Rattle.dfs_session.proofs.Choosing.{begins_as, begins_chosen, begins_no_erro
 use Rattle.dfs_session.proofs.Kept.{all_opened, sound_reads, zip_read}
 use Rattle.dfs_session.proofs.Selecting.{no_fault}
 use Rattle.dfs_session.proofs.Working.{on_ok, on_ok_by, stays_in_memory, stays_worked}
+use Rattle.dfs_host.proofs.Moments.{reads_nothing}
+use Rattle.dfs_session.specs.Session.{Step}
+use Rattle.dfs_session.specs.Worked.{IsRefusal}
 use Rattle.dfs_session.proofs.session.Session.begin.Goals as goal
 
 pub returns-then-contains_key-clause-worked : goal.returns-then-contains_key-clause-worked
@@ -143,3 +146,28 @@ returns-in-Changes-clause-at_once g c = λ s tells stands is.
 pub returns-in-Damaged-clause-at_once : goal.returns-in-Damaged-clause-at_once
 returns-in-Damaged-clause-at_once g c = λ s tells stands is.
     absurd (begins_no_error (g.H.Host.state c.args.host.now) c.args.self.now s c.args.word c.args.names.now stands c.if-contains_key.ensures c.if-is_full.ensures c.if-not-lists.ensures is)
+
+pub returns-then-contains_key-clause-looks : goal.returns-then-contains_key-clause-looks
+returns-then-contains_key-clause-looks g c = λ s tells stands is. reads_nothing (g.H.Host.state c.args.host.now)
+
+pub returns-then-is_full-clause-looks : goal.returns-then-is_full-clause-looks
+returns-then-is_full-clause-looks g c = λ s tells stands is. reads_nothing (g.H.Host.state c.args.host.now)
+
+pub returns-then-not-lists-clause-looks : goal.returns-then-not-lists-clause-looks
+returns-then-not-lists-clause-looks g c = λ s tells stands is. reads_nothing (g.H.Host.state c.args.host.now)
+
+pub returns-in_err-changes-clause-looks : goal.returns-in_err-changes-clause-looks
+returns-in_err-changes-clause-looks g c = λ s tells stands is. c.select.ensures.only
+
+pub returns-in-Damaged-clause-looks : goal.returns-in-Damaged-clause-looks
+returns-in-Damaged-clause-looks g c = λ s tells stands is. c.select.ensures.only
+
+pub returns-in-Changes-clause-looks : goal.returns-in-Changes-clause-looks
+returns-in-Changes-clause-looks g c = λ s tells stands is.
+    let session = c.args.self.now in
+    let names = c.args.names.now in
+    let before = g.H.Host.state c.args.host.now in
+    let chosen = chosen_in (listed_in session) names in
+    let selection : AreChosen before chosen (map (λ c. c.value) c.in-Changes.changes.items) = subst (λ (x : Selection). IsSelection before chosen x) c.in-Changes.is (c.in_ok-changes.ensures.selection tells) in
+    absurd (subst (λ (step : Step). IsRefusal step.reply) (begins_as before session s c.args.word names stands false false true c.if-contains_key.ensures c.if-is_full.ensures c.if-not-lists.ensures
+    ∙ begins_chosen before session s c.args.word names stands None selection.whole) is)

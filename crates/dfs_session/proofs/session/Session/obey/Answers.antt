@@ -5,6 +5,10 @@ use Rattle.dfs_script.specs.declared.Line.TheVariants.{Nothing}
 use Rattle.dfs_session.specs.Worked.{IsWorked, of_command}
 use Rattle.dfs_session.proofs.Working.{stays_in_memory}
 use Rattle.dfs_session.proofs.Writing.{begin_leaves_registry, file_idle, log_leaves_registry}
+use Rattle.dfs_host.proofs.Moments.{reads_nothing}
+use Rattle.dfs_session.specs.Session.{after_command}
+use Rattle.dfs_session.specs.Worked.{ChangesNone}
+use Rattle.dfs_session.proofs.Looking.{memory_reads}
 use Rattle.dfs_session.proofs.session.Session.obey.Goals as goal
 
 pub returns-in-Nothing-clause-worked : goal.returns-in-Nothing-clause-worked
@@ -65,3 +69,40 @@ returns-in-Plan-clause-memory g c = λ tells is. log_leaves_registry (g.H.Host.s
 
 pub returns-in-Part-clause-memory : goal.returns-in-Part-clause-memory
 returns-in-Part-clause-memory g c = λ tells is. log_leaves_registry (g.H.Host.state c.args.host.now) c.args.self.now c.requires.sound tells c.in-Part.job (g.H.Host.state c.part.new.host) c.part.ensures.worked.writes
+
+pub returns-in-Nothing-clause-looks : goal.returns-in-Nothing-clause-looks
+returns-in-Nothing-clause-looks g c = λ s tells stands is. reads_nothing (g.H.Host.state c.args.host.now)
+
+pub returns-in-Set-clause-looks : goal.returns-in-Set-clause-looks
+returns-in-Set-clause-looks g c = λ s tells stands is. reads_nothing (g.H.Host.state c.args.host.now)
+
+pub returns-in-Snapshots-clause-looks : goal.returns-in-Snapshots-clause-looks
+returns-in-Snapshots-clause-looks g c = λ s tells stands is. reads_nothing (g.H.Host.state c.args.host.now)
+
+pub returns-in-Stats-clause-looks : goal.returns-in-Stats-clause-looks
+returns-in-Stats-clause-looks g c = λ s tells stands is. reads_nothing (g.H.Host.state c.args.host.now)
+
+pub returns-in-End-clause-looks : goal.returns-in-End-clause-looks
+returns-in-End-clause-looks g c = λ s tells stands is. reads_nothing (g.H.Host.state c.args.host.now)
+
+pub returns-in-Flush-clause-looks : goal.returns-in-Flush-clause-looks
+returns-in-Flush-clause-looks g c = λ s tells stands is.
+    memory_reads c.flush.result (g.H.Host.state c.args.host.now) (g.H.Host.state c.flush.new.host) (c.flush.ensures.at_once s tells stands (subst (λ (line : Line). ChangesNone line (after_command s line).reply) c.in-Flush.is is))
+
+pub returns-in-Plan-clause-looks : goal.returns-in-Plan-clause-looks
+returns-in-Plan-clause-looks g c = λ s tells stands is.
+    memory_reads c.plan.result (g.H.Host.state c.args.host.now) (g.H.Host.state c.plan.new.host) (c.plan.ensures.at_once s tells stands (subst (λ (line : Line). ChangesNone line (after_command s line).reply) c.in-Plan.is is))
+
+pub returns-in-Part-clause-looks : goal.returns-in-Part-clause-looks
+returns-in-Part-clause-looks g c = λ s tells stands is.
+    memory_reads c.part.result (g.H.Host.state c.args.host.now) (g.H.Host.state c.part.new.host) (c.part.ensures.at_once s tells stands (subst (λ (line : Line). ChangesNone line (after_command s line).reply) c.in-Part.is is))
+
+pub returns-in-Publish-clause-looks : goal.returns-in-Publish-clause-looks
+returns-in-Publish-clause-looks g c = λ s tells stands is.
+    memory_reads c.publish.result (g.H.Host.state c.args.host.now) (g.H.Host.state c.publish.new.host) (c.publish.ensures.at_once s tells stands (subst (λ (line : Line). ChangesNone line (after_command s line).reply) c.in-Publish.is is))
+
+pub returns-in-Begin-clause-looks : goal.returns-in-Begin-clause-looks
+returns-in-Begin-clause-looks g c = λ s tells stands is. c.begin.ensures.looks s tells stands (subst (λ (line : Line). ChangesNone line (after_command s line).reply) c.in-Begin.is is)
+
+pub returns-in-Space-clause-looks : goal.returns-in-Space-clause-looks
+returns-in-Space-clause-looks g c = λ s tells stands is. c.operate.ensures.looks s tells stands (subst (λ (line : Line). ChangesNone line (after_command s line).reply) c.in-Space.is is)

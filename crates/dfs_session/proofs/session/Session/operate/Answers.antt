@@ -1,4 +1,4 @@
-use Rattle.std.proofs.Common.{inl, ◌≡◌, ◌∙◌, ℕ, Option, Result, Err, refl, sym, ap, subst, map}
+use Rattle.std.proofs.Common.{inl, ◌≡◌, ◌∙◌, ℕ, Option, Result, Err, refl, sym, ap, subst, map, arith, length}
 use Rattle.std.proofs.lemmas.Result.{err_from_is_err_and}
 use Rattle.std.specs.BTreeMap.{BTreeMap}
 use Rattle.std.specs.Global.{Vec}
@@ -17,11 +17,15 @@ use Rattle.dfs_job.specs.declared.job.Job.{Job as LiveJob}
 use Rattle.dfs_job.specs.Job.{Job, after, does}
 use Rattle.dfs_session.specs.Session.{of_live, operates, told}
 use Rattle.dfs_session.specs.Worked.{IsShort, IsWorked, operating, with_op}
-use Rattle.dfs_session.proofs.Changing.{answered_worked, changed_stands, fault_worked, found_job, no_job, past_of, was_sound}
+use Rattle.dfs_session.proofs.Changing.{answered_worked, changed_stands, fault_worked, found_job, no_job, past_of, was_live, was_sound}
 use Rattle.dfs_session.proofs.Handed.{none_unless, told_no_job}
 use Rattle.dfs_session.proofs.Selecting.{no_fault}
 use Rattle.dfs_session.proofs.Working.{stays_in_memory}
 use Rattle.dfs_session.proofs.Writing.{own_written}
+use Rattle.dfs_host.proofs.Moments.{reads_nothing}
+use Rattle.dfs_job.specs.Job.{namespace_of}
+use Rattle.dfs_session.specs.Worked.{IsSeen}
+use Rattle.dfs_session.proofs.Looking.{none_made}
 use Rattle.dfs_session.proofs.session.Session.operate.Goals as goal
 
 pub op-requires-clause-sound : goal.op-requires-clause-sound
@@ -106,3 +110,28 @@ returns-clause-at_once g c = λ s tells stands is.
     let f = found_job before session s w live stands found in
     let op = c.args.op.now in
     absurd (told_no_job (does f.plain op).answer (sym (ap (λ (o : Option Job). (of_live o s (λ j. operates s w j (does j op))).reply) f.found) ∙ is))
+
+pub returns-in_default-clause-looks : goal.returns-in_default-clause-looks
+returns-in_default-clause-looks g c = λ s tells stands is. reads_nothing (g.H.Host.state c.args.host.now)
+
+pub returns-in_err-answer-clause-looks : goal.returns-in_err-answer-clause-looks
+returns-in_err-answer-clause-looks g c = λ s tells stands is.
+    let before = g.H.Host.state c.args.host.now in
+    let session = c.args.self.now in
+    let w = c.args.word.now in
+    let live = c.in-Some.job.now in
+    let f = found_job before session s w live stands (sym c.in-Some.ensures.value) in
+    let op = c.args.op.now in
+    let none = none_made (namespace_of f.plain) f.plain.ids op (subst (λ (o : Option Job). IsSeen (of_live o s (λ j. operates s w j (does j op))).reply) f.found is) in
+    (c.op.ensures.room f.plain tells f.is (omega (arith, ap length none, (was_live before before session w live c.requires.sound (sym c.in-Some.ensures.value)).fit.layers.room))).reads
+
+pub returns-clause-looks : goal.returns-clause-looks
+returns-clause-looks g c = λ s tells stands is.
+    let before = g.H.Host.state c.args.host.now in
+    let session = c.args.self.now in
+    let w = c.args.word.now in
+    let live = c.in-Some.job.now in
+    let f = found_job before session s w live stands (sym c.in-Some.ensures.value) in
+    let op = c.args.op.now in
+    let none = none_made (namespace_of f.plain) f.plain.ids op (subst (λ (o : Option Job). IsSeen (of_live o s (λ j. operates s w j (does j op))).reply) f.found is) in
+    (c.op.ensures.room f.plain tells f.is (omega (arith, ap length none, (was_live before before session w live c.requires.sound (sym c.in-Some.ensures.value)).fit.layers.room))).reads

@@ -47,3 +47,12 @@ returns-in-Err-Syntax-clause-memory g c = λ tells is. file_idle 0 (g.H.Host.sta
 
 pub returns-in-Err-NoMemory-clause-memory : goal.returns-in-Err-NoMemory-clause-memory
 returns-in-Err-NoMemory-clause-memory g c = λ tells is. file_idle 0 (g.H.Host.state c.args.host.now)
+
+pub returns-in-Err-Long-clause-looks : goal.returns-in-Err-Long-clause-looks
+returns-in-Err-Long-clause-looks g c = λ s tells stands is. reads_nothing (g.H.Host.state c.args.host.now)
+
+pub returns-in-Err-Syntax-clause-looks : goal.returns-in-Err-Syntax-clause-looks
+returns-in-Err-Syntax-clause-looks g c = λ s tells stands is. reads_nothing (g.H.Host.state c.args.host.now)
+
+pub returns-in-Err-NoMemory-clause-looks : goal.returns-in-Err-NoMemory-clause-looks
+returns-in-Err-NoMemory-clause-looks g c = λ s tells stands is. reads_nothing (g.H.Host.state c.args.host.now)

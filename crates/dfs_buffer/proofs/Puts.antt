@@ -19,7 +19,7 @@ use Rattle.dfs_record.specs.Records.{KeysRise, IsBelow}
 use Rattle.dfs_record.proofs.Maps.{get-insert, same_map, alike_keys, same_key}
 use Rattle.dfs_record.proofs.Replays.{get-with_records, get-delta}
 use Rattle.dfs_cursor.specs.Ranges.{pairs, first, second}
-use Rattle.dfs_buffer.specs.Chunks.{AreBelow, AreAbove, BeginsWith, IsReplaced, AreChunks}
+use Rattle.dfs_buffer.specs.Chunks.{AreBelow, AreAbove, BeginsWith, IsReplaced, AreChunks, chunk_limit}
 use Rattle.dfs_buffer.proofs.Rising.{above_from, above_to, back_rises}
 use Rattle.dfs_buffer.proofs.Places.{all_left, all_right}
 
@@ -159,11 +159,11 @@ module _ (a back old new : List Record) (rec : Record) (parts : old ≡ a ++ bac
 
 -- what stands in chunks after a put, and after one that was refused
 module _ {X : Type 0} (f : X → List Record) (cs ds : List X) where
-  pub chunks_put : (rec : Record) → IsPut (flat_map f cs) (flat_map f ds) rec → All (λ c. 0 < length (f c)) ds → AreChunks f ds
-  chunks_put rec p filled = record { rises = p.rises; valid = p.valid; filled = filled }
+  pub chunks_put : (rec : Record) → IsPut (flat_map f cs) (flat_map f ds) rec → All (λ c. 0 < length (f c)) ds → All (λ c. length (f c) ≤ chunk_limit) ds → AreChunks f ds
+  chunks_put rec p filled short = record { rises = p.rises; valid = p.valid; filled = filled; short = short }
 
-  pub chunks_same : AreChunks f cs → flat_map f ds ≡ flat_map f cs → All (λ c. 0 < length (f c)) ds → AreChunks f ds
-  chunks_same all same filled = record { rises = subst KeysRise (sym same) all.rises; valid = subst (All IsRecord) (sym same) all.valid; filled = filled }
+  pub chunks_same : AreChunks f cs → flat_map f ds ≡ flat_map f cs → All (λ c. 0 < length (f c)) ds → All (λ c. length (f c) ≤ chunk_limit) ds → AreChunks f ds
+  chunks_same all same filled short = record { rises = subst KeysRise (sym same) all.rises; valid = subst (All IsRecord) (sym same) all.valid; filled = filled; short = short }
 
 pub either_way : {A E : Type 0} (r : Result A E) {P Q G : Type 0} → OnOk r P → OnErr r Q → (P → G) → (Q → G) → G
 either_way (Ok a) p q f g = f p

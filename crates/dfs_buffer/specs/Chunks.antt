@@ -10,6 +10,10 @@ use Rattle.dfs_record.specs.KeyMap.{len}
 use Rattle.dfs_record.specs.Record.{IsRecord}
 use Rattle.dfs_record.specs.Records.{KeysRise, IsBelow}
 
+-- the most records of a chunk, so that a put moves no more than these
+abbrev pub chunk_limit : ℕ
+chunk_limit = 64
+
 abbrev pub AreBelow : List Record → Key → Type 0
 AreBelow rs key = All (λ r. IsBelow r.key key) rs
 
@@ -47,11 +51,27 @@ module _ {X : Type 0} (records : X → List Record) where
   abbrev pub from : List X → ℕ → ℕ → List Record
   from chunks i j = drop j (chunk_at chunks i) ++ flat_map records (drop (suc i) chunks)
 
-  -- the records rise over all chunks, each is valid, and no chunk is empty
+  -- the records rise over all chunks, each is valid, no chunk is empty, and none has more than 64
   pub record AreChunks (chunks : List X) : Type 0 where
     pub rises : KeysRise (flat_map records chunks)
     pub valid : All IsRecord (flat_map records chunks)
     pub filled : All (λ c. 0 < length (records c)) chunks
+    pub short : All (λ c. length (records c) ≤ chunk_limit) chunks
+
+  -- a chunk stands at the index, and a record more fits in it
+  pub record HasRoom (chunks : List X) (chunk : ℕ) : Type 0 where
+    pub within : chunk < length chunks
+    pub fewer : length (chunk_at chunks chunk) < chunk_limit
+
+  -- the chunk at an index is cut into its first records and its others, and a record more fits in either
+  pub record IsCut (old new : List X) (chunk half : ℕ) : Type 0 where
+    pub front : X
+    pub back : X
+    pub is : new ≡ take chunk old ++ front ∷ back ∷ drop (suc chunk) old
+    pub first : records front ≡ take half (chunk_at old chunk)
+    pub others : records back ≡ drop half (chunk_at old chunk)
+    pub first_fewer : length (records front) < chunk_limit
+    pub others_fewer : length (records back) < chunk_limit
 
   -- where a key stands, or where it would stand
   pub record IsPlace (chunks : List X) (key : Key) (chunk index : ℕ) (found : Bool) : Type 0 where

@@ -1,7 +1,8 @@
-//! Records in rising order of their keys, in chunks of a limited length.
+//! Records in rising order of their keys, in chunks of 64 records at most.
 
-ghost use Rattle.std.specs.Prelude.{◌≡◌, ◌<◌, ◌≤◌, List, [], ◌∷◌, ◌++◌, length, IsTrue, IsFalse, MatchBool, take, drop, flat_map, All, MatchResult, HoldsAt, true, false, OnOk, OnErr, option_copied, IfSome, Some, None};
+ghost use Rattle.std.specs.Prelude.{◌≡◌, ◌<◌, ◌≤◌, List, [], ◌∷◌, ◌++◌, length, IsTrue, IsFalse, MatchBool, take, drop, flat_map, All, MatchResult, HoldsAt, true, false, OnOk, OnErr, option_copied, IfOk, IfSome, Some, None};
 ghost use Rattle.std.specs.List.Sorted.{IsPartitionPoint};
+ghost use Rattle.dfs_record.specs.declared.Key.{Key};
 ghost use Rattle.dfs_record.specs.declared.Record.{Record as OwnRecord};
 ghost use Rattle.dfs_record.specs.Delta.{delta, with_record};
 ghost use Rattle.dfs_record.specs.Key.{key_cmp};
@@ -10,7 +11,7 @@ ghost use Rattle.dfs_record.specs.Lend.{key_of};
 ghost use Rattle.dfs_record.specs.Record.{IsRecord, IsValue};
 ghost use Rattle.dfs_record.specs.Records.{KeysRise};
 ghost use Rattle.dfs_cursor.specs.Ranges.{part};
-ghost use Rattle.dfs_buffer.specs.Chunks.{AreBelow, AreAbove, AreChunks, IsPlace, IsReplaced, begins_up_to, chunk_at, before, from};
+ghost use Rattle.dfs_buffer.specs.Chunks.{AreBelow, AreAbove, AreChunks, HasRoom, IsCut, IsPlace, IsReplaced, begins_up_to, chunk_at, chunk_limit, before, from};
 
 use dfs_record::{KeyRef, NoMemory, Record, Value};
 use std::cmp::Ordering;
@@ -99,8 +100,10 @@ fn is_end(chunks: &[Vec<Record>], place: &Place) -> bool
     }
 }
 
+/// Whether the chunk has as many records as it may have.
 fn is_full(chunks: &[Vec<Record>], chunk: usize) -> bool
-    ensures { IsTrue result → (chunk < length chunks.now) × (2 ≤ length (chunk_at (λ c. c.items) chunks.now chunk)) }
+    ensures full { IsTrue result → chunk_limit ≤ length (chunk_at (λ c. c.items) chunks.now chunk) }
+    ensures room { IsFalse result → length (chunk_at (λ c. c.items) chunks.now chunk) < chunk_limit }
 {
     match chunks.get(chunk) {
         None => false,
@@ -108,13 +111,15 @@ fn is_full(chunks: &[Vec<Record>], chunk: usize) -> bool
     }
 }
 
-/// Cuts a chunk into two of half its length. The records stay as they are, whatever the answer.
-fn split(chunks: &mut Vec<Vec<Record>>, chunk: usize) -> Result<(), NoMemory>
+/// Cuts a full chunk into two, and answers how many records the first has. The records stay as they are, whatever the
+/// answer.
+fn split(chunks: &mut Vec<Vec<Record>>, chunk: usize) -> Result<usize, NoMemory>
     requires all { AreChunks (λ c. c.items) chunks.old.items }
     requires within { chunk < length chunks.old.items }
-    requires several { 2 ≤ length (chunk_at (λ c. c.items) chunks.old.items chunk) }
+    requires full { chunk_limit ≤ length (chunk_at (λ c. c.items) chunks.old.items chunk) }
     ensures all { AreChunks (λ c. c.items) chunks.new.items }
     ensures same { flat_map (λ c. c.items) chunks.new.items ≡ flat_map (λ c. c.items) chunks.old.items }
+    ensures cut { IfOk result (λ half. IsCut (λ c. c.items) chunks.old.items chunks.new.items chunk half) }
 {
     chunks.reserve(1)?;
     let records = &mut chunks[chunk];
@@ -123,7 +128,28 @@ fn split(chunks: &mut Vec<Vec<Record>>, chunk: usize) -> Result<(), NoMemory>
     if chunks.insert(chunk + 1, behind).is_err() {
         return Err(NoMemory);
     }
-    Ok(())
+    Ok(half)
+}
+
+/// Cuts the full chunk of a place, and answers where the place is then: in a chunk with room.
+fn make_room(chunks: &mut Vec<Vec<Record>>, place: Place) -> Result<Place, NoMemory>
+    requires all { AreChunks (λ c. c.items) chunks.old.items }
+    requires within { place.chunk < length chunks.old.items }
+    requires full { chunk_limit ≤ length (chunk_at (λ c. c.items) chunks.old.items place.chunk) }
+    ensures all { AreChunks (λ c. c.items) chunks.new.items }
+    ensures same { flat_map (λ c. c.items) chunks.new.items ≡ flat_map (λ c. c.items) chunks.old.items }
+    ensures place { IfOk result (λ p. (key : Key) → IsPlace (λ c. c.items) chunks.old.items key place.chunk place.index false → IsPlace (λ c. c.items) chunks.new.items key p.chunk p.index false) }
+    ensures room { IfOk result (λ p. HasRoom (λ c. c.items) chunks.new.items p.chunk) }
+{
+    let half = split(chunks, place.chunk)?;
+    if place.index <= half {
+        return Ok(place);
+    }
+    Ok(Place {
+        chunk: place.chunk + 1,
+        index: place.index - half,
+        found: place.found,
+    })
 }
 
 /// Begins a chunk behind all others.
@@ -131,6 +157,7 @@ fn append(chunks: &mut Vec<Vec<Record>>, rec: Record) -> Result<(), NoMemory>
     ensures ok { OnOk result (flat_map (λ c. c.items) chunks.new.items ≡ flat_map (λ c. c.items) chunks.old.items ++ rec ∷ []) }
     ensures err { OnErr result (flat_map (λ c. c.items) chunks.new.items ≡ flat_map (λ c. c.items) chunks.old.items) }
     ensures filled { All (λ c. 0 < length c.items) chunks.old.items → All (λ c. 0 < length c.items) chunks.new.items }
+    ensures short { All (λ c. length c.items ≤ chunk_limit) chunks.old.items → All (λ c. length c.items ≤ chunk_limit) chunks.new.items }
 {
     let mut records = Vec::new(*chunks.allocator());
     if records.push(rec).is_err() || chunks.push(records).is_err() {
@@ -139,18 +166,19 @@ fn append(chunks: &mut Vec<Vec<Record>>, rec: Record) -> Result<(), NoMemory>
     Ok(())
 }
 
-/// Puts a record at an index of a chunk, before those that stand there.
+/// Puts a record at an index of a chunk with room, before those that stand there.
 fn insert(
     chunks: &mut Vec<Vec<Record>>,
     chunk: usize,
     index: usize,
     rec: Record,
 ) -> Result<(), NoMemory>
-    requires within { chunk < length chunks.old.items }
+    requires room { HasRoom (λ c. c.items) chunks.old.items chunk }
     requires index { index ≤ length (chunk_at (λ c. c.items) chunks.old.items chunk) }
     ensures ok { OnOk result (flat_map (λ c. c.items) chunks.new.items ≡ before (λ c. c.items) chunks.old.items chunk index ++ rec ∷ from (λ c. c.items) chunks.old.items chunk index) }
     ensures err { OnErr result (flat_map (λ c. c.items) chunks.new.items ≡ flat_map (λ c. c.items) chunks.old.items) }
     ensures filled { All (λ c. 0 < length c.items) chunks.old.items → All (λ c. 0 < length c.items) chunks.new.items }
+    ensures short { All (λ c. length c.items ≤ chunk_limit) chunks.old.items → All (λ c. length c.items ≤ chunk_limit) chunks.new.items }
 {
     let records = &mut chunks[chunk];
     if records.insert(index, rec).is_err() {
@@ -165,6 +193,7 @@ fn replace(chunks: &mut Vec<Vec<Record>>, chunk: usize, index: usize, value: Val
     requires index { index < length (chunk_at (λ c. c.items) chunks.old.items chunk) }
     ensures value { IsReplaced (before (λ c. c.items) chunks.old.items chunk index) (from (λ c. c.items) chunks.old.items chunk index) (flat_map (λ c. c.items) chunks.new.items) value }
     ensures filled { All (λ c. 0 < length c.items) chunks.old.items → All (λ c. 0 < length c.items) chunks.new.items }
+    ensures short { All (λ c. length c.items ≤ chunk_limit) chunks.old.items → All (λ c. length c.items ≤ chunk_limit) chunks.new.items }
 {
     let records = &mut chunks[chunk];
     let rec = &mut records[index];
@@ -180,23 +209,36 @@ fn begins_chunk(chunks: &[Vec<Record>], place: &Place) -> bool
     is_end(chunks, place) && (chunks.is_empty() || is_full(chunks, place.chunk))
 }
 
-/// Puts a record at its place.
+/// Puts a record at its place, in a chunk with room.
 fn put_at(chunks: &mut Vec<Vec<Record>>, place: Place, rec: Record) -> Result<(), NoMemory>
     requires all { AreChunks (λ c. c.items) chunks.old.items }
     requires valid { IsRecord rec }
-    requires place { IsPlace (λ c. c.items) chunks.old.items rec.key place.chunk place.index place.found }
+    requires place { IsPlace (λ c. c.items) chunks.old.items rec.key place.chunk place.index false }
+    requires room { HasRoom (λ c. c.items) chunks.old.items place.chunk }
     ensures all { AreChunks (λ c. c.items) chunks.new.items }
     ensures ok { OnOk result (delta (flat_map (λ c. c.items) chunks.new.items) ≡ with_record (delta (flat_map (λ c. c.items) chunks.old.items)) rec) }
     ensures err { OnErr result (flat_map (λ c. c.items) chunks.new.items ≡ flat_map (λ c. c.items) chunks.old.items) }
 {
-    if place.found {
-        replace(chunks, place.chunk, place.index, rec.value);
-        return Ok(());
-    }
+    insert(chunks, place.chunk, place.index, rec)
+}
+
+/// Puts a record whose key no other has.
+fn put_new(chunks: &mut Vec<Vec<Record>>, place: Place, rec: Record) -> Result<(), NoMemory>
+    requires all { AreChunks (λ c. c.items) chunks.old.items }
+    requires valid { IsRecord rec }
+    requires place { IsPlace (λ c. c.items) chunks.old.items rec.key place.chunk place.index false }
+    ensures all { AreChunks (λ c. c.items) chunks.new.items }
+    ensures ok { OnOk result (delta (flat_map (λ c. c.items) chunks.new.items) ≡ with_record (delta (flat_map (λ c. c.items) chunks.old.items)) rec) }
+    ensures err { OnErr result (flat_map (λ c. c.items) chunks.new.items ≡ flat_map (λ c. c.items) chunks.old.items) }
+{
     if begins_chunk(chunks, &place) {
         return append(chunks, rec);
     }
-    insert(chunks, place.chunk, place.index, rec)
+    if !is_full(chunks, place.chunk) {
+        return put_at(chunks, place, rec);
+    }
+    let place = make_room(chunks, place)?;
+    put_at(chunks, place, rec)
 }
 
 /// Puts a record in the place of the one with its key, or where it belongs.
@@ -208,12 +250,11 @@ pub(crate) fn put(chunks: &mut Vec<Vec<Record>>, rec: Record) -> Result<(), NoMe
     ensures err { OnErr result (flat_map (λ c. c.items) chunks.new.items ≡ flat_map (λ c. c.items) chunks.old.items) }
 {
     let place = place_of(chunks, rec.key.lend());
-    if !place.found && is_full(chunks, place.chunk) && !is_end(chunks, &place) {
-        split(chunks, place.chunk)?;
-        let place = place_of(chunks, rec.key.lend());
-        return put_at(chunks, place, rec);
+    if place.found {
+        replace(chunks, place.chunk, place.index, rec.value);
+        return Ok(());
     }
-    put_at(chunks, place, rec)
+    put_new(chunks, place, rec)
 }
 
 /// The value of the key's record.

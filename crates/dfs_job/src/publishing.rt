@@ -36,7 +36,7 @@ use std::alloc::Global;
 use std::rc::Rc;
 
 impl Job {
-    ghost use Rattle.std.specs.Prelude.{◌≡◌, ◌≤◌, ◌<◌, ◌+◌, ◌*◌, ◌⊎◌, ℕ, List, IsTrue, IfOk, OnOk, IsErrOf, Some};
+    ghost use Rattle.std.specs.Prelude.{◌≡◌, ◌≤◌, ◌<◌, ◌+◌, ◌*◌, ◌⊎◌, ℕ, List, length, IsTrue, IfOk, OnOk, IsErrOf, Some};
     ghost use Rattle.dfs_host.specs.Disk.{IsSettled};
     ghost use Rattle.dfs_host.specs.Fault.{HasFaultCause};
     ghost use Rattle.dfs_host.specs.Host.{Told, Only, bytes_of};
@@ -60,6 +60,12 @@ impl Job {
         // The manifest tells of just the tables of that run: the only layer's, or those of as many parts as the settings say.
         ensures tables { (j : PlainJob) → Told (H.state host.old) (JobStands (H.state host.old) self.old j
             → IfOk result (λ sealed. TellsOf (flushed_firsts self.old j) (flushed_tables self.old j) self.old.settings.parts (layer_changes (after_flush j)) sealed.len)) }
+        // A job with one closed layer and an empty open one writes its manifest alone, behind what its log had: no table of that layer is
+        // written again.
+        ensures alone { length (own_runs self.old.layers) ≡ 1 → self.old.layers.buffer.made ≡ 0 → IfOk result (λ sealed. sealed.at ≡ self.old.layers.log.len) }
+        // Nothing stands behind the manifest, in the log and in its file.
+        ensures ends { IfOk result (λ sealed. self.new.layers.log.len ≡ sealed.at + sealed.len) }
+        ensures file_ends { Told (H.state host.old) (IfOk result (λ sealed. length (bytes_of (H.state host.new) self.old.ids.job) ≡ sealed.at + sealed.len)) }
         ensures settled { Told (H.state host.old) (OnOk result (IsSettled ((H.state host.new).disk.files self.old.ids.job))) }
         ensures number { self.new.ids ≡ self.old.ids }
         ensures settings { self.new.settings ≡ self.old.settings }
@@ -104,6 +110,12 @@ fn seal<H: Host>(
     ensures count { (ls : List (List AnyRecord)) → Told (H.state host.old) (IsSealable (H.state host.old) layers.old.log.file (own_runs layers.old) ls → IfOk result (λ sealed. sealed.count ≡ len (delta (flat_map (λ rs. rs) ls)))) }
     ensures tables { (ls : List (List AnyRecord)) → Told (H.state host.old) (IsSealable (H.state host.old) layers.old.log.file (own_runs layers.old) ls
         → IfOk result (λ sealed. TellsOf (first_keys (own_runs layers.old)) (table_count (own_runs layers.old)) parts (map delta ls) sealed.len)) }
+    // The only run is sealed by its manifest alone, behind what the log had.
+    ensures alone { length (own_runs layers.old) ≡ 1 → IfOk result (λ sealed. sealed.at ≡ layers.old.log.len) }
+    // Nothing stands behind the manifest.
+    ensures ends { IfOk result (λ sealed. layers.new.log.len ≡ sealed.at + sealed.len) }
+    ensures log { Told (H.state host.old) (OnOk result (LogStands (H.state host.new) layers.new.log)) }
+    ensures file { layers.new.log.file ≡ layers.old.log.file }
     ensures settled { Told (H.state host.old) (OnOk result (IsSettled ((H.state host.new).disk.files layers.old.log.file))) }
     ensures same { (layers.new.basis.items ≡ layers.old.basis.items) × (layers.new.runs.items ≡ layers.old.runs.items) }
     ensures passes { (ls : List (List AnyRecord)) → Told (H.state host.old) (IsSealable (H.state host.old) layers.old.log.file (own_runs layers.old) ls
@@ -143,6 +155,11 @@ fn finish<H: Host>(
         → IfOk result (λ sealed. (name : List ℕ) → log_meaning (bytes_of (H.state host.new) log.old.file) (entry_of name log.old.file sealed) ≡ Some d)) }
     ensures count { (d : Delta) → Told (H.state host.old) (IsStored (bytes_of (H.state host.old) log.old.file) run.now d → IfOk result (λ sealed. sealed.count ≡ len d)) }
     ensures len { IfOk result (λ sealed. sealed.len ≡ 4 + 12 * length run.now.tables) }
+    // The manifest stands behind what the log had, and nothing behind it.
+    ensures at { IfOk result (λ sealed. sealed.at ≡ log.old.len) }
+    ensures ends { IfOk result (λ sealed. log.new.len ≡ sealed.at + sealed.len) }
+    ensures log { Told (H.state host.old) (OnOk result (LogStands (H.state host.new) log.new)) }
+    ensures file { log.new.file ≡ log.old.file }
     ensures settled { Told (H.state host.old) (OnOk result (IsSettled ((H.state host.new).disk.files log.old.file))) }
     ensures full { IsErrOf result Fault.LogFull ↔ (0 < log.new.refused) }
     ensures past { 0 < log.new.refused → log.old.limit < log.new.len + log.new.refused }

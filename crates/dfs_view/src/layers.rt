@@ -1,6 +1,6 @@
 //! The layers of a job.
 
-ghost use Rattle.std.specs.Prelude.{◌≡◌, ◌<◌, ◌≤◌, ◌+◌, ◌↔◌, ◌∷◌, [], ℕ, length, slice_get, is_ok, true, IsSomeAnd, IsFalse, IsErrOf, OnOk};
+ghost use Rattle.std.specs.Prelude.{◌≡◌, ◌<◌, ◌≤◌, ◌+◌, ◌++◌, ◌↔◌, ◌∷◌, [], ℕ, length, map, slice_get, is_ok, true, IsSomeAnd, IsFalse, IsTrue, IsErrOf, OnErr, OnOk};
 ghost use Rattle.dfs_host.specs.Fault.{HasFaultCause};
 ghost use Rattle.dfs_host.specs.Host.{Told};
 ghost use Rattle.dfs_record.specs.Namespace.{after_record};
@@ -13,7 +13,7 @@ use dfs_buffer::Buffer;
 use dfs_change::Change;
 use dfs_host::{Fault, Host};
 use dfs_log::LogWriter;
-use dfs_record::Record;
+use dfs_record::{NoMemory, Record};
 use dfs_table::{Run, write_run};
 use std::alloc::Global;
 use std::rc::Rc;
@@ -79,7 +79,8 @@ pub(crate) fn add<H: Host>(
     close(alloc, host, layers)
 }
 
-/// Closes the open layer, where it has a record; the map stays. `LogFull` exactly where the log refused a piece.
+/// Closes the open layer, where it has a record; the map stays. `LogFull` exactly where the log refused a piece. After a fault the log
+/// is spent.
 pub fn flush<H: Host>(alloc: Global, host: &mut H, layers: &mut Layers) -> Result<(), Fault>
     requires fit { AreFit layers.old }
     requires stand { Told (H.state host.old) (Stand (H.state host.old) layers.old) }
@@ -96,6 +97,8 @@ pub fn flush<H: Host>(alloc: Global, host: &mut H, layers: &mut Layers) -> Resul
     ensures full { IsErrOf result Fault.LogFull ↔ (0 < layers.new.log.refused) }
     ensures cause { HasFaultCause (H.state host.old) (H.state host.new) result }
     ensures reads { (H.state host.new).reads ≡ (H.state host.old).reads }
+    // Want of memory included: no log goes on over a layer that was written and not noted.
+    ensures log_spent { OnErr result (IsTrue layers.new.log.spent) }
 {
     // Read here, since a log that is not spent refused nothing.
     let _ = layers.log.len();
@@ -105,7 +108,7 @@ pub fn flush<H: Host>(alloc: Global, host: &mut H, layers: &mut Layers) -> Resul
     close(alloc, host, layers)
 }
 
-// Closes the open layer: its records become a run of the log.
+// Closes the open layer: its records become a run of the log. After a fault the log is spent.
 fn close<H: Host>(alloc: Global, host: &mut H, layers: &mut Layers) -> Result<(), Fault>
     requires live { IsFalse layers.old.log.spent }
     requires few { layers.old.buffer.made ≤ 65536 }
@@ -115,16 +118,30 @@ fn close<H: Host>(alloc: Global, host: &mut H, layers: &mut Layers) -> Result<()
     ensures full { IsErrOf result Fault.LogFull ↔ (0 < layers.new.log.refused) }
     ensures cause { HasFaultCause (H.state host.old) (H.state host.new) result }
     ensures reads { (H.state host.new).reads ≡ (H.state host.old).reads }
+    // Want of memory included: no log goes on over a layer that was written and not noted.
+    ensures log_spent { OnErr result (IsTrue layers.new.log.spent) }
 {
     // Read here, since no key is there without a record.
     let _ = layers.buffer.made();
     let run = write_run(alloc, host, &mut layers.log, layers.buffer.records())?;
-    let Ok(run) = Rc::new(alloc, run) else {
-        return Err(Fault::NoMemory);
-    };
-    let Ok(()) = layers.runs.push(run) else {
+    let Ok(()) = note(alloc, &mut layers.runs, run) else {
+        layers.log.spend();
         return Err(Fault::NoMemory);
     };
     layers.buffer.clear();
     Ok(())
+}
+
+// Notes the run as that of the newest closed layer.
+fn note(alloc: Global, runs: &mut Vec<Rc<Run>>, run: Run) -> Result<(), NoMemory>
+    ensures noted { OnOk result (map (λ r. r.value) runs.new.items ≡ map (λ r. r.value) runs.old.items ++ run ∷ []) }
+    ensures kept { OnErr result (runs.new.items ≡ runs.old.items) }
+{
+    let Ok(run) = Rc::new(alloc, run) else {
+        return Err(NoMemory);
+    };
+    match runs.push(run) {
+        Ok(()) => Ok(()),
+        Err(_) => Err(NoMemory),
+    }
 }

@@ -14,6 +14,7 @@ mod Working
 mod Changing
 mod Selecting
 mod Taking
+mod Reading
 mod Places
 mod Beginning
 mod Publishing

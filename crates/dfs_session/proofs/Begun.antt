@@ -102,15 +102,15 @@ found_of P p (y ∷ xs) x all is = by (p y) (found_of P p xs x all.1) is
     by true rest is = subst P (same_some y x is) all.0
     by false rest is = rest is
 
-abbrev IsNo : Bool → Type 0
+abbrev pub IsNo : Bool → Type 0
 IsNo true = ⊥
 IsNo false = Unit {0}
 
-second_false : (a b : Bool) → (a || b) ≡ false → b ≡ false
+pub second_false : (a b : Bool) → (a || b) ≡ false → b ≡ false
 second_false true b none = absurd (subst IsNo (sym none) tt)
 second_false false b none = none
 
-first_false : (a b : Bool) → (a || b) ≡ false → a ≡ false
+pub first_false : (a b : Bool) → (a || b) ≡ false → a ≡ false
 first_false true b none = absurd (subst IsNo (sym none) tt)
 first_false false b none = refl
 
@@ -178,7 +178,7 @@ any_element : {X : Type 0} (p : X → Bool) (xs : List X) → list_any p xs ≡ 
 any_element p xs is = let any = Any-from_list_any p xs is in (any.1, (any.0, any.2, any.3), any.4)
 
 -- the change of a name that a live job selected is kept
-selected_kept : (session : LiveSession) (name : SnapName) (l : Listed) → IsSoundInMemory session → listed_as (listed_in session) name ≡ Some l → is_selected session name ≡ true → IsKept session.kept l.job
+pub selected_kept : (session : LiveSession) (name : SnapName) (l : Listed) → IsSoundInMemory session → listed_as (listed_in session) name ≡ Some l → is_selected session name ≡ true → IsKept session.kept l.job
 selected_kept session name l sound is selected =
     let job = any_element (λ e. list_any (λ c. has_name name c.listed) (begin_in session.kept (number_of e.1))) (jobs_of session) selected in
     let number = number_of job.0.1 in

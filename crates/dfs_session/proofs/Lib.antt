@@ -15,6 +15,7 @@ mod Working
 mod Changing
 mod Selecting
 mod Taking
+mod Reading
 mod Places
 mod Beginning
 mod Publishing

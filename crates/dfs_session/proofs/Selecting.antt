@@ -6,6 +6,7 @@ use Rattle.std.proofs.lemmas.Option.{none-some}
 use Rattle.std.specs.Prelude.{◌||◌, nat_eq, slice_get, filter_map, find, is_some, map, not, IsTrue, Result, Ok, Err, IfNone, IfOk, IfSome}
 use Rattle.std.specs.List.{AllByRecursion, AllZip, list_all, cons_option}
 use Rattle.std.proofs.lemmas.List.Elements.{filter_map-append}
+use Rattle.dfs_host.specs.Counts.{RoseBy}
 use Rattle.dfs_host.specs.Disk.{FileState}
 use Rattle.dfs_host.specs.Fault.{NoFault}
 use Rattle.dfs_host.specs.Host.{HostState, Told, OnlyReads, bytes_of}
@@ -31,6 +32,7 @@ use Rattle.dfs_session.specs.Selected.{AreChosen, listed_as, is_listed, chosen_i
 use Rattle.dfs_session.specs.Session.{Publication, Registry, changes_of, is_damaged}
 use Rattle.dfs_session.specs.declared.keeping.Kept.{Kept}
 use Rattle.dfs_session.specs.Kept.{IsInside, IsKept, IsOpened, IsOwn}
+use Rattle.dfs_session.specs.Reads.{Knows, first_reads}
 use Rattle.dfs_session.specs.Sound.{IsEntry}
 use Rattle.dfs_job.proofs.Apart.{selectable_still}
 use Rattle.dfs_session.proofs.Kept.{reads_keep}
@@ -45,6 +47,7 @@ pub record SoFar (start now : HostState) (ls : List Listed) (kept : Kept) (line 
   pub none : NoFault start now
   pub names : map (λ c. c.listed.name) cs ≡ take index line
   pub reads : AllByRecursion (λ l. IsKept kept l.job) (chosen_in ls (take index line)) → now.reads ≡ start.reads
+  pub anew : (known : SnapName → Bool) → Knows ls kept known → RoseBy (first_reads known cs) start.reads now.reads
 
 -- ---- a change set that was opened
 
@@ -79,6 +82,10 @@ zip_more R (a ∷ xs) [] x y zip r = absurd zip
 zip_more R (a ∷ xs) (b ∷ ys) x y zip r = (zip.0, zip_more R xs ys x y zip.1 r)
 
 -- ---- the publications of the names
+
+pub all_split : {X : Type 0} (P : X → Type 0) (xs ys : List X) → AllByRecursion P (xs ++ ys) → AllByRecursion P xs × AllByRecursion P ys
+all_split P [] ys all = (tt, all)
+all_split P (x ∷ xs) ys all = let rest = all_split P xs ys all.1 in ((all.0, rest.0), rest.1)
 
 module _ (files : ℕ → List ℕ) (ls : List Listed) (names : List SnapName) (k : ℕ) (name : SnapName) (l : Listed) (at : slice_get names k ≡ Some name) (listed : listed_as ls name ≡ Some l) where
   abbrev was : Registry
@@ -115,6 +122,13 @@ module _ (files : ℕ → List ℕ) (ls : List Listed) (names : List SnapName) (
       ap (λ f. publications_of f (chosen_in ls names)) same ∙ ap (publications_of files) chosen_whole ∙ map-append (publication_of files) (chosen_in ls (take k names)) (l ∷ chosen_in ls (drop (k + 1) names)) in
       let before : publications_of (bytes_of start) (chosen_in ls (take k names)) ≡ was = ap (λ f. publications_of f (chosen_in ls (take k names))) same in
       (p, ap (find is_damaged) whole ∙ find-append is_damaged was (p ∷ rest) (ap (find is_damaged) (sym before) ∙ so_far.whole) ∙ ap (λ (o : Option Delta). cond (not (is_some o)) (Some p) (find is_damaged rest)) has, refl)
+
+  -- where all are kept, nothing was read with this one too
+  pub read_no_more : (after : HostState) {start now : HostState} {kept : Kept} {cs : List Change} → SoFar start now ls kept names k cs → (IsKept kept l.job → after.reads ≡ now.reads) → AllByRecursion (λ m. IsKept kept m.job) (chosen_in ls names)
+      → after.reads ≡ start.reads
+  read_no_more after {start} {now} {kept} so_far here all =
+      let parts = all_split (λ m. IsKept kept m.job) (chosen_in ls (take k names)) (l ∷ chosen_in ls (drop (k + 1) names)) (subst (AllByRecursion (λ m. IsKept kept m.job)) chosen_whole all) in
+      here parts.1.0 ∙ so_far.reads parts.0
 
 -- an opened change set is what the files had before calls that only read
 pub opened_before : (start now : HostState) → OnlyReads start now → IsTrue start.tells → (l : Listed) (c : Change) → IsOpened now l c → IsOpened start l c
@@ -182,7 +196,3 @@ IsFine (Err e) = ⊥
 
 pub no_fault : {T E : Type 0} (result : Result T E) (x : T) (e : E) → result ≡ Ok x → result ≡ Err e → ⊥
 no_fault result x e is was = subst IsFine was (subst IsFine (sym is) tt)
-
-pub all_split : {X : Type 0} (P : X → Type 0) (xs ys : List X) → AllByRecursion P (xs ++ ys) → AllByRecursion P xs × AllByRecursion P ys
-all_split P [] ys all = (tt, all)
-all_split P (x ∷ xs) ys all = let rest = all_split P xs ys all.1 in ((all.0, rest.0), rest.1)

@@ -12,3 +12,4 @@ pub mod Selected
 pub mod Taken
 pub mod Images
 pub mod Room
+pub mod Reads

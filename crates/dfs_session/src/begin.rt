@@ -21,7 +21,8 @@ impl Session {
     ghost use Rattle.dfs_host.specs.Host.{OnlyReads, Told};
     ghost use Rattle.dfs_record.specs.Delta.{Delta};
     ghost use Rattle.dfs_job.specs.Stands.{IsStoredFor};
-    ghost use Rattle.dfs_session.specs.Kept.{IsInside, IsOwn};
+    ghost use Rattle.dfs_session.specs.Kept.{IsInside, IsOwn, begin_in};
+    ghost use Rattle.dfs_session.specs.Reads.{ReadsOnce};
     ghost use Rattle.dfs_session.specs.Selected.{is_listed};
     ghost use Rattle.dfs_session.specs.Sound.{IsEntry, IsSound, listed_in, jobs_of, live_in};
     ghost use Rattle.dfs_script.specs.declared.Line.TheVariants.{Begin};
@@ -38,6 +39,7 @@ impl Session {
     ) -> Result<Vec<u8>, Fault>
         requires { IsSound (H.state host.old) self.old }
         ensures worked { IsWorked (beginning word names.now) (H.state host.old) (H.state host.new) self.old self.new result }
+        ensures once { ReadsOnce (H.state host.old).reads (H.state host.new).reads self.old self.new names.now }
         ensures at_once { (s : PlainSession) → Told (H.state host.old) (Stands (H.state host.old) self.old s → IsRefusedAtOnce (Begin word names.now) (begins s word names.now).reply → StaysInMemory result (H.state host.old) (H.state host.new)) }
         ensures looks { (s : PlainSession) → Told (H.state host.old) (Stands (H.state host.old) self.old s → IsRefusal (begins s word names.now).reply → OnlyReads (H.state host.old) (H.state host.new)) }
     {
@@ -89,8 +91,10 @@ impl Session {
         requires last { self.old.greatest < 4294967294 }
         requires absent { live_in self.old word ≡ None }
 
-        ensures { (basis : List Delta) → Told (H.state host.old) (AllZip (IsStoredFor (H.state host.old)) (map (λ c. c.value) changes.items) basis)
+        ensures worked { (basis : List Delta) → Told (H.state host.old) (AllZip (IsStoredFor (H.state host.old)) (map (λ c. c.value) changes.items) basis)
             → IsWorked (beginning_over word (map (λ c. c.listed.name) (map (λ c. c.value) changes.items)) basis) (H.state host.old) (H.state host.new) self.old self.new result }
+        ensures begun { self.old.greatest < self.new.greatest → begin_in self.new.kept self.new.greatest ≡ map (λ c. c.value) changes.items }
+        ensures reads { (H.state host.new).reads ≡ (H.state host.old).reads }
     {
         let number = self.greatest + 1;
         let reply = text_of(self.alloc, &Reply::Job(number))?;

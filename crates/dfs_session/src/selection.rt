@@ -1,13 +1,16 @@
 //! What a job selects: the change sets of publications, in order.
 
-ghost use Rattle.std.specs.Prelude.{◌≡◌, ◌++◌, ◌∷◌, [], ℕ, find, map, IfOk, IfErr, IfNone, IfSome, IsSome, IsSomeAnd, OnOk, IsErrOf, IsTrue, None};
+ghost use Rattle.std.specs.Prelude.{◌≡◌, ◌++◌, ◌∷◌, [], ℕ, Bool, find, map, IfOk, IfErr, IfNone, IfSome, IsSome, IsSomeAnd, OnOk, IsErrOf, IsTrue, None};
 ghost use Rattle.std.specs.Option.{option_copied};
 ghost use Rattle.std.specs.List.{AllByRecursion, list_all};
+ghost use Rattle.dfs_host.specs.Counts.{RoseBy};
 ghost use Rattle.dfs_host.specs.Fault.{HasFaultCause};
 ghost use Rattle.dfs_host.specs.Host.{Told, OnlyReads, bytes_of};
 ghost use Rattle.dfs_change.specs.Meant.{log_meaning};
+ghost use Rattle.dfs_record.specs.declared.SnapName.{SnapName as ASnapName};
 ghost use Rattle.dfs_registry.specs.Body.{has_job};
 ghost use Rattle.dfs_session.specs.Kept.{EachBegun, IsIndexed, IsInside, IsKept, IsOpened, IsOwn};
+ghost use Rattle.dfs_session.specs.Reads.{HasFirstReads, IsUnkept, Knows, reads_for};
 ghost use Rattle.dfs_session.specs.Selected.{AreEntries, AreInside, AreNamedBy, IsSelection, chosen_in, is_listed};
 ghost use Rattle.dfs_session.specs.Sound.{IsEntry};
 ghost use Rattle.dfs_session.specs.Taken.{IsFor};
@@ -48,7 +51,10 @@ pub fn select<H: Host>(
     ensures entries { IfOk result (AreEntries registry.now.entries) }
     ensures inside { IfOk result AreInside }
     ensures names { IfOk result (AreNamedBy names.now) }
-    ensures reads { AllByRecursion (λ l. IsKept kept.now l.job) (chosen_in registry.now.entries names.now) → OnOk result ((H.state host.new).reads ≡ (H.state host.old).reads) }
+    // Nothing is read where each is kept, whatever the answer.
+    ensures reads { AllByRecursion (λ l. IsKept kept.now l.job) (chosen_in registry.now.entries names.now) → (H.state host.new).reads ≡ (H.state host.old).reads }
+    // What is selected is read the first time that its name comes, where it is not kept, and only then.
+    ensures anew { (known : ASnapName → Bool) → Knows registry.now.entries kept.now known → IfOk result (HasFirstReads known (H.state host.old).reads (H.state host.new).reads) }
     ensures only { OnlyReads (H.state host.old) (H.state host.new) }
     ensures cause { HasFaultCause (H.state host.old) (H.state host.new) result }
     ensures never_full { IsErrOf result Fault.LogFull → ⊥ }
@@ -87,6 +93,9 @@ fn take<H: Host>(
     ensures inside { IfOk result (λ found. IfSome found (λ change. IsInside change.value)) }
     ensures reads { IsKept kept.now listed.now.job → (H.state host.new).reads ≡ (H.state host.old).reads }
     ensures once { IsSome (find (λ c. has_job listed.now.job c.value.listed) changes.now) → (H.state host.new).reads ≡ (H.state host.old).reads }
+    // What is neither kept nor selected before is opened, once.
+    ensures anew { IsUnkept kept.now listed.now.job → find (λ c. has_job listed.now.job c.value.listed) changes.now ≡ None
+        → IfOk result (λ found. IfSome found (λ change. RoseBy (reads_for change.value) (H.state host.old).reads (H.state host.new).reads)) }
     ensures only { OnlyReads (H.state host.old) (H.state host.new) }
     ensures cause { HasFaultCause (H.state host.old) (H.state host.new) result }
     ensures never_full { IsErrOf result Fault.LogFull → ⊥ }
@@ -125,6 +134,7 @@ fn open<H: Host>(alloc: Global, host: &mut H, listed: &Listed) -> Result<Option<
     ensures damaged { Told (H.state host.old) (IfOk result (λ found. IfNone found (log_meaning (bytes_of (H.state host.old) listed.now.job) listed.now ≡ None))) }
     ensures listed { IfOk result (λ found. IfSome found (λ change. change.value.listed ≡ listed.now)) }
     ensures inside { IfOk result (λ found. IfSome found (λ change. IsInside change.value)) }
+    ensures reads { IfOk result (λ found. IfSome found (λ change. RoseBy (reads_for change.value) (H.state host.old).reads (H.state host.new).reads)) }
     ensures only { OnlyReads (H.state host.old) (H.state host.new) }
     ensures cause { HasFaultCause (H.state host.old) (H.state host.new) result }
     ensures never_full { IsErrOf result Fault.LogFull → ⊥ }

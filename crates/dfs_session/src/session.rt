@@ -53,7 +53,7 @@ pub fn text_of(alloc: Global, reply: &Reply) -> Result<Vec<u8>, Fault>
 }
 
 impl Session {
-    ghost use Rattle.std.specs.Prelude.{◌≡◌, ◌<◌, ◌⊎◌, ℕ, List, Some, Ok, IfOk, IfErr, OnOk, OnErr, IsTrue, IsErrOf};
+    ghost use Rattle.std.specs.Prelude.{◌≡◌, ◌<◌, ◌⊎◌, ℕ, List, Some, Ok, IfOk, IfErr, IfSome, OnOk, OnErr, IsTrue, IsErrOf};
     ghost use Rattle.std.specs.List.{AllByRecursion, list_all};
     ghost use Rattle.dfs_host.specs.Disk.{IsSettled};
     ghost use Rattle.dfs_host.specs.Fault.{HasFaultCause};
@@ -69,11 +69,12 @@ impl Session {
     ghost use Rattle.dfs_script.specs.Line.{meaning};
     ghost use Rattle.dfs_script.specs.declared.JobWord.{JobWord as AJobWord};
     ghost use Rattle.dfs_script.specs.declared.Line.TheVariants.{Begin};
+    ghost use Rattle.dfs_session.specs.Reads.{ReadsOnce};
     ghost use Rattle.dfs_session.specs.Selected.{is_selected};
     ghost use Rattle.dfs_session.specs.Sound.{IsSound, jobs_of};
     ghost use Rattle.dfs_job.specs.Stands.{AreSettings};
     ghost use Rattle.dfs_session.specs.Stands.{Stands, LeavesValue};
-    ghost use Rattle.dfs_session.specs.Worked.{AreNamed, ChangesNone, OpensAs, IsFromMemory, IsPast, IsRefusedAtOnce, IsShort, IsWorked, StaysInMemory, changes_none, from_memory, has_refused, job_by, log_by, many_by, names_by, of_command, of_line, passes_by, passes_of, refused_at_once, settings_by, writes_by};
+    ghost use Rattle.dfs_session.specs.Worked.{AreNamed, ChangesNone, OpensAs, IsFromMemory, IsPast, IsRefusedAtOnce, IsShort, IsWorked, StaysInMemory, changes_none, from_memory, has_refused, job_by, log_by, many_by, names_by, names_of, of_command, of_line, passes_by, passes_of, refused_at_once, settings_by, writes_by};
     ghost use Rattle.dfs_session.specs.Writes.{FileStays, LogsStay, OnlyThese};
 
     /// Opens the registry of a host. Jobs that begin are given the settings.
@@ -157,6 +158,8 @@ impl Session {
         ensures short { (s : PlainSession) → Told (H.state host.old) (Stands (H.state host.old) self.old s → IsErrOf result Fault.LogFull → IsShort (job_by s (meaning line.now))) }
         // Each live job keeps the names of its begin, as long as it lives.
         ensures names { OnOk result (AreNamed (names_by (meaning line.now)) self.old self.new) }
+        // A begin reads a change set only the first time that its name comes, and only where no live job selected it.
+        ensures once { IfSome (names_by (meaning line.now)) (ReadsOnce (H.state host.old).reads (H.state host.new).reads self.old self.new) }
         // A begin reads nothing where each of its names stands in the begin of a live job.
         ensures kept { (word : AJobWord) (names : List SnapName) → meaning line.now ≡ Ok (Begin word names) → IsTrue (list_all (is_selected self.old) names) → OnOk result ((H.state host.new).reads ≡ (H.state host.old).reads) }
         ensures spent { OnErr result (IsTrue self.new.spent) }
@@ -174,6 +177,7 @@ impl Session {
     fn work<H: Host>(&mut self, host: &mut H, line: &[u8]) -> Result<Vec<u8>, Fault>
         requires { IsSound (H.state host.old) self.old }
         ensures worked { IsWorked (of_line line.now) (H.state host.old) (H.state host.new) self.old self.new result }
+        ensures once { IfSome (names_by (meaning line.now)) (ReadsOnce (H.state host.old).reads (H.state host.new).reads self.old self.new) }
         ensures too_many { (s : PlainSession) → Told (H.state host.old) (Stands (H.state host.old) self.old s → passes_by (meaning line.now) s self.old → OnOk result ⊥) }
         ensures at_once { (s : PlainSession) → Told (H.state host.old) (Stands (H.state host.old) self.old s → refused_at_once (meaning line.now) (step_of s line.now).reply → StaysInMemory result (H.state host.old) (H.state host.new)) }
         ensures looks { (s : PlainSession) → Told (H.state host.old) (Stands (H.state host.old) self.old s → changes_none (meaning line.now) (step_of s line.now).reply → OnlyReads (H.state host.old) (H.state host.new)) }
@@ -193,6 +197,7 @@ impl Session {
         requires sound { IsSound (H.state host.old) self.old }
         requires line { IsLine line }
         ensures worked { IsWorked (of_command line) (H.state host.old) (H.state host.new) self.old self.new result }
+        ensures once { IfSome (names_of line) (ReadsOnce (H.state host.old).reads (H.state host.new).reads self.old self.new) }
         ensures too_many { (s : PlainSession) → Told (H.state host.old) (Stands (H.state host.old) self.old s → passes_of line s self.old → OnOk result ⊥) }
         ensures at_once { (s : PlainSession) → Told (H.state host.old) (Stands (H.state host.old) self.old s → IsRefusedAtOnce (line) (after_command s line).reply → StaysInMemory result (H.state host.old) (H.state host.new)) }
         ensures looks { (s : PlainSession) → Told (H.state host.old) (Stands (H.state host.old) self.old s → ChangesNone line (after_command s line).reply → OnlyReads (H.state host.old) (H.state host.new)) }

@@ -1,7 +1,8 @@
-use Rattle.std.proofs.Common.{◌≡◌, ◌∙◌, ◌+◌, ◌++◌, ◌∷◌, [], ℕ, List, Some, None, Ok, drop, map, refl, sym, ap, subst, arith}
+use Rattle.std.proofs.Common.{◌≡◌, ◌∙◌, ◌+◌, ◌++◌, ◌∷◌, [], ℕ, List, Some, None, Ok, map, refl, sym, ap, subst, arith}
 use Rattle.std.specs.Prelude.{find, take}
 use Rattle.std.specs.List.{AllByRecursion}
 use Rattle.std.proofs.lemmas.List.{map-append, take_all}
+use Rattle.dfs_host.specs.Counts.{RoseBy}
 use Rattle.dfs_host.specs.Disk.{Disk}
 use Rattle.dfs_host.specs.Host.{bytes_of}
 use Rattle.dfs_host.proofs.Causes.{none_by}
@@ -15,14 +16,15 @@ use Rattle.dfs_registry.specs.Body.{has_name}
 use Rattle.dfs_session.specs.declared.selection.Selection.TheVariants.{Damaged}
 use Rattle.dfs_session.specs.Selected.{AreChosen, IsSelection, chosen_in}
 use Rattle.dfs_session.specs.Kept.{IsInside, IsKept, IsOpened, begin_in}
+use Rattle.dfs_session.specs.Reads.{first_reads}
 use Rattle.dfs_session.specs.Sound.{IsEntry}
 use Rattle.dfs_session.specs.Taken.{IsFor}
 use Rattle.dfs_session.proofs.Begun.{listed_name, own_entry}
 use Rattle.dfs_session.proofs.Kept.{all_opened}
+use Rattle.dfs_session.proofs.Reading.{next_reads}
 use Rattle.dfs_session.proofs.Taking.{all_for}
-use Rattle.dfs_session.proofs.Selecting.{all_split, chosen_next, chosen_whole, first_damaged, if_none_at, if_ok_by, if_some_at, must_be_listed, next_chosen, no_fault, opened_before}
+use Rattle.dfs_session.proofs.Selecting.{all_split, chosen_next, first_damaged, if_none_at, if_ok_by, if_some_at, must_be_listed, next_chosen, no_fault, opened_before, read_no_more}
 use Rattle.dfs_session.proofs.Lists.{take_next}
-use Rattle.dfs_session.proofs.Working.{on_ok}
 use Rattle.dfs_session.proofs.selection.select.Goals as goal
 
 pub unreachable-requires : goal.unreachable-requires
@@ -73,17 +75,27 @@ loop-index-preserved g c =
           let parts = all_split (λ l. IsKept c.args.kept.now l.job) (chosen_in ls (take index names)) (listed ∷ [])
           (subst (AllByRecursion (λ l. IsKept c.args.kept.now l.job)) (chosen_next (bytes_of start) ls names index c.get.result.now listed c.get.ensures.value (sym c.in-Some.ensures)) kept) in
           c.in_ok-change.ensures.reads parts.1.0 ∙ so_far.reads parts.0;
+      anew = λ known knows.
+          subst (λ (ds : List Change). RoseBy (first_reads known ds) start.reads (g.H.Host.state c.take.new.host).reads) (sym more)
+          (next_reads ls listed c.count.ensures.listing registry_entry (λ r. r.value) c.args.kept.now known c.deref.result.now cs change.value start.reads (g.H.Host.state c.loop-index.host).reads (g.H.Host.state c.take.new.host).reads
+          (ap (map (λ c. c.value)) c.deref.ensures.value) c.requires.kept c.requires.entries so_far.entries same c.take.ensures.reads c.take.ensures.once
+          (λ unkept none. if_some_at found _ change (c.in_ok-change.ensures.anew unkept none) c.in-Some-2.is) knows (so_far.anew known knows));
     }
 
 pub returns-in-None-clause-reads : goal.returns-in-None-clause-reads
-returns-in-None-clause-reads g c = λ kept.
-    let listed = c.in-Some.listed.now in
-    let ls = c.args.registry.now.entries in
-    let names = c.args.names.now in
-    let index = c.loop-index.index in
-    let parts = all_split (λ l. IsKept c.args.kept.now l.job) (chosen_in ls (take index names)) (listed ∷ chosen_in ls (drop (index + 1) names))
-    (subst (AllByRecursion (λ l. IsKept c.args.kept.now l.job)) (chosen_whole (bytes_of (g.H.Host.state c.args.host.now)) ls names index c.get.result.now listed c.get.ensures.value (sym c.in-Some.ensures)) kept) in
-    on_ok c.damaged.result _ (c.in_ok-change.ensures.reads parts.1.0 ∙ c.loop-index.invariant.reads parts.0)
+returns-in-None-clause-reads g c =
+    read_no_more (bytes_of (g.H.Host.state c.args.host.now)) c.args.registry.now.entries c.args.names.now c.loop-index.index c.get.result.now c.in-Some.listed.now c.get.ensures.value (sym c.in-Some.ensures) (g.H.Host.state c.take.new.host) c.loop-index.invariant c.take.ensures.reads
+
+pub returns-in_err-change-clause-reads : goal.returns-in_err-change-clause-reads
+returns-in_err-change-clause-reads g c =
+    read_no_more (bytes_of (g.H.Host.state c.args.host.now)) c.args.registry.now.entries c.args.names.now c.loop-index.index c.get.result.now c.in-Some.listed.now c.get.ensures.value (sym c.in-Some.ensures) (g.H.Host.state c.take.new.host) c.loop-index.invariant c.take.ensures.reads
+
+pub returns-in_err-add-in-Some-2-clause-reads : goal.returns-in_err-add-in-Some-2-clause-reads
+returns-in_err-add-in-Some-2-clause-reads g c =
+    read_no_more (bytes_of (g.H.Host.state c.args.host.now)) c.args.registry.now.entries c.args.names.now c.loop-index.index c.get.result.now c.in-Some.listed.now c.get.ensures.value (sym c.in-Some.ensures) (g.H.Host.state c.take.new.host) c.loop-index.invariant c.take.ensures.reads
+
+pub returns-clause-anew : goal.returns-clause-anew
+returns-clause-anew g c = λ known knows. c.loop-index.invariant.anew known knows
 
 pub take-requires-clause-of_kept : goal.take-requires-clause-of_kept
 take-requires-clause-of_kept g c = λ job.

@@ -15,13 +15,15 @@ use Rattle.dfs_reply.specs.declared.Word.TheVariants as word
 use Rattle.dfs_session.specs.declared.selection.Selection.{Selection}
 use Rattle.dfs_session.specs.declared.selection.Selection.TheVariants.{Damaged}
 use Rattle.dfs_session.specs.Files.{publications_of}
-use Rattle.dfs_session.specs.Selected.{AreChosen, AreEntries, AreInside, AreNamedBy, is_listed, chosen_in, IsSelection}
+use Rattle.dfs_session.specs.Reads.{HasFirstReads}
+use Rattle.dfs_session.specs.Selected.{AreChosen, AreEntries, AreInside, AreNamedBy, is_listed, is_selected, chosen_in, IsSelection}
 use Rattle.dfs_session.specs.Session.{changes_of, stays}
 use Rattle.dfs_session.specs.Sound.{jobs_of, listed_in}
 use Rattle.dfs_session.specs.Worked.{IsWorked, beginning, beginning_over}
 use Rattle.dfs_session.proofs.Begun.{names_kept}
 use Rattle.dfs_session.proofs.Choosing.{begins_as, begins_chosen, begins_no_error, after_reads, read_fault_worked}
 use Rattle.dfs_session.proofs.Kept.{all_opened, sound_reads, zip_read}
+use Rattle.dfs_session.proofs.Reading.{begun_once, none_begun, session_knows}
 use Rattle.dfs_session.proofs.Selecting.{no_fault}
 use Rattle.dfs_session.proofs.Working.{on_ok, on_ok_by, stays_in_memory, stays_worked}
 use Rattle.dfs_host.proofs.Moments.{reads_nothing}
@@ -99,7 +101,7 @@ returns-in-Changes-clause-worked g c =
     let basis : List Delta = changes_of (publications_of (bytes_of before) chosen) in
     let cs : List Change = map (λ c. c.value) c.in-Changes.changes.items in
     let selection : IsTrue before.tells → AreChosen before chosen cs = λ tells. subst (λ (x : Selection). IsSelection before chosen x) c.in-Changes.is (c.in_ok-changes.ensures.selection tells) in
-    let worked = c.begin_over.ensures basis (λ tells. let told = sym only.tells ∙ tells in zip_read before mid only told cs basis (selection told).stored) in
+    let worked = c.begin_over.ensures.worked basis (λ tells. let told = sym only.tells ∙ tells in zip_read before mid only told cs basis (selection told).stored) in
     after_reads before mid after session c.begin_over.new.self (beginning c.args.word names) (beginning_over c.args.word (map (λ c. c.listed.name) cs) basis) c.begin_over.result c.requires only
     (none_by (none_yet before) c.select.ensures.cause (no_fault c.select.result c.in_ok-changes.field-0 Disk c.in_ok-changes.was))
     (λ s tells stands. begins_as before session s c.args.word names stands false false true c.if-contains_key.ensures c.if-is_full.ensures c.if-not-lists.ensures
@@ -125,6 +127,29 @@ returns-in-Damaged-clause-worked g c =
     ∙ begins_chosen before session s c.args.word names stands (Some damaged.0) damaged.1 ∙ ap (λ (name : List ℕ). stays s (DamagedReply name)) damaged.2)
     c.text_of-in-Damaged.ensures.text c.text_of-in-Damaged.ensures.memory
     (λ quiet. on_ok c.text_of-in-Damaged.result (after.reads ≡ before.reads) (c.in_ok-changes.ensures.reads (names_kept session names c.requires.memory quiet)))
+
+pub returns-in_err-changes-clause-once : goal.returns-in_err-changes-clause-once
+returns-in_err-changes-clause-once g c =
+    let session = c.args.self.now in
+    let names = c.args.names.now in
+    none_begun session session names refl (λ selected. c.select.ensures.reads (names_kept session names c.requires.memory selected))
+
+pub returns-in-Changes-clause-once : goal.returns-in-Changes-clause-once
+returns-in-Changes-clause-once g c =
+    let session = c.args.self.now in
+    let names = c.args.names.now in
+    let before = g.H.Host.state c.args.host.now in
+    let mid = g.H.Host.state c.select.new.host in
+    let known = is_selected session in
+    begun_once before.reads mid.reads (g.H.Host.state c.begin_over.new.host).reads session c.begin_over.new.self names (map (λ c. c.value) c.in-Changes.changes.items) c.begin_over.ensures.reads c.begin_over.ensures.begun
+    (subst (HasFirstReads known before.reads mid.reads) c.in-Changes.is (c.in_ok-changes.ensures.anew known (session_knows session c.requires.memory)))
+    (λ selected. c.select.ensures.reads (names_kept session names c.requires.memory selected))
+
+pub returns-in-Damaged-clause-once : goal.returns-in-Damaged-clause-once
+returns-in-Damaged-clause-once g c =
+    let session = c.args.self.now in
+    let names = c.args.names.now in
+    none_begun session session names refl (λ selected. c.select.ensures.reads (names_kept session names c.requires.memory selected))
 
 pub returns-then-contains_key-clause-at_once : goal.returns-then-contains_key-clause-at_once
 returns-then-contains_key-clause-at_once g c = λ s tells stands is. (c.text_of.ensures.memory, refl)

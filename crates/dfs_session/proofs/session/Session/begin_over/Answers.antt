@@ -23,8 +23,8 @@ use Rattle.dfs_session.proofs.Working.{same_sound}
 use Rattle.dfs_session.proofs.Writing.{next_written, one_of_these, reads_these}
 use Rattle.dfs_session.proofs.session.Session.begin_over.Goals as goal
 
-pub returns-in_err-reply : goal.returns-in_err-reply
-returns-in_err-reply g c =
+pub returns-in_err-reply-clause-worked : goal.returns-in_err-reply-clause-worked
+returns-in_err-reply-clause-worked g c =
     let session = c.args.self.now in
     let host = g.H.Host.state c.args.host.now in
     let p = err_from_is_err_and c.from_residual.result c.from_residual.ensures.1 in
@@ -35,8 +35,8 @@ returns-in_err-reply g c =
     (λ s tells stands. stands_value host session s tells c.requires.sound stands) (λ s tells stands. refl)
     (λ s tells stands. read_images host host session s s.registry tells c.requires.sound stands (reads_nothing host)))
 
-pub returns-then-is_err : goal.returns-then-is_err
-returns-then-is_err g c =
+pub returns-then-is_err-clause-worked : goal.returns-then-is_err-clause-worked
+returns-then-is_err-clause-worked g c =
     let session = c.args.self.now in
     let host = g.H.Host.state c.args.host.now in
     let sound = c.requires.sound in
@@ -45,8 +45,8 @@ returns-then-is_err g c =
     (sound_refused session sound.memory) refl (λ s tells stands. stands_value host session s tells sound stands) (λ s tells stands. refl)
     (λ s tells stands. read_images host host session s s.registry tells sound stands (reads_nothing host))
 
-pub returns-in_err-job : goal.returns-in_err-job
-returns-in_err-job g c =
+pub returns-in_err-job-clause-worked : goal.returns-in_err-job-clause-worked
+returns-in_err-job-clause-worked g c =
     let session = c.args.self.now in
     let new : LiveSession = record session { kept = c.keep.new.self } in
     let host = g.H.Host.state c.args.host.now in
@@ -59,8 +59,8 @@ returns-in_err-job g c =
     (sound_refused session c.requires.sound.memory)
     (λ s tells stands. begun_images host after session c.requires.sound c.requires.last c.begin.ensures.only s s.registry tells stands))
 
-pub returns-in-Ok : goal.returns-in-Ok
-returns-in-Ok g c =
+pub returns-in-Ok-clause-worked : goal.returns-in-Ok-clause-worked
+returns-in-Ok-clause-worked g c =
     let session = c.args.self.now in
     let host = g.H.Host.state c.args.host.now in
     let after = g.H.Host.state c.begin.new.host in
@@ -73,8 +73,8 @@ returns-in-Ok g c =
     (subst (AllByRecursion (IsEntry (listed_in session))) selected c.requires.entries) (subst (AllByRecursion IsInside) selected c.requires.inside) (λ tells. subst (AllByRecursion (IsOwn host)) selected (c.requires.opened tells))
     c.keep.new.self (kept _ c.keep.ensures.indexed) (kept _ c.keep.ensures.begun ∙ ap (map (λ r. r.value)) c.deref.ensures.value ∙ selected) (kept _ c.keep.ensures.others) basis c.in_ok-reply.reply (λ tells. begun.stands basis tells (is tells)) (fine_cause c.begin.result c.in_ok-job.job c.in_ok-job.was c.begin.ensures.cause c.begin.ensures.reads) c.begin.ensures.reads c.in_ok-reply.ensures.text)
 
-pub returns-in-Err : goal.returns-in-Err
-returns-in-Err g c =
+pub returns-in-Err-clause-worked : goal.returns-in-Err-clause-worked
+returns-in-Err-clause-worked g c =
     let session = c.args.self.now in
     let host = g.H.Host.state c.args.host.now in
     let after = g.H.Host.state c.begin.new.host in

@@ -1,8 +1,9 @@
 use Rattle.dfs_script.specs.Line.{meaning}
 use Rattle.std.proofs.Common.{◌∙◌, sym, subst}
 use Rattle.dfs_session.specs.Session.{step as step_of}
-use Rattle.dfs_session.specs.Worked.{quiet_by}
+use Rattle.dfs_session.specs.Worked.{names_by, quiet_by}
 use Rattle.dfs_session.proofs.Images.{image_holds}
+use Rattle.dfs_session.proofs.Reading.{spent_once}
 use Rattle.dfs_session.proofs.Writing.{logs_stay}
 use Rattle.dfs_session.proofs.session.Session.step.Goals as goal
 
@@ -24,3 +25,6 @@ returns-in-Err-clause-logs g c = λ s tells stands. logs_stay (g.H.Host.state c.
 
 pub returns-in-Err-clause-memory : goal.returns-in-Err-clause-memory
 returns-in-Err-clause-memory g c = λ tells is. c.work.ensures.memory tells (c.in-Err.is ∙ is)
+
+pub returns-in-Err-clause-once : goal.returns-in-Err-clause-once
+returns-in-Err-clause-once g c = spent_once (g.H.Host.state c.args.host.now).reads (g.H.Host.state c.work.new.host).reads c.args.self.now c.work.new.self (names_by (meaning c.args.line.now)) c.work.ensures.once

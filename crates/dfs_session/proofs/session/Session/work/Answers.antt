@@ -11,8 +11,9 @@ use Rattle.dfs_script.specs.Read.{IsSaid}
 use Rattle.dfs_session.specs.Session.{after_meaning}
 use Rattle.dfs_session.proofs.Choosing.{read_fault_worked}
 use Rattle.dfs_host.proofs.Moments.{reads_nothing}
-use Rattle.dfs_session.specs.Worked.{of_line, settings_by}
+use Rattle.dfs_session.specs.Worked.{names_by, of_line, settings_by}
 use Rattle.dfs_session.proofs.Handed.{memory_not_full}
+use Rattle.dfs_session.proofs.Reading.{same_once}
 use Rattle.dfs_session.proofs.Working.{memory_cause, stays_in_memory}
 use Rattle.dfs_session.proofs.Writing.{file_idle}
 use Rattle.dfs_session.proofs.session.Session.work.Goals as goal
@@ -56,3 +57,6 @@ returns-in-Err-Syntax-clause-looks g c = λ s tells stands is. reads_nothing (g.
 
 pub returns-in-Err-NoMemory-clause-looks : goal.returns-in-Err-NoMemory-clause-looks
 returns-in-Err-NoMemory-clause-looks g c = λ s tells stands is. reads_nothing (g.H.Host.state c.args.host.now)
+
+pub returns-in-Err-NoMemory-clause-once : goal.returns-in-Err-NoMemory-clause-once
+returns-in-Err-NoMemory-clause-once g c = same_once (g.H.Host.state c.args.host.now).reads c.args.self.now (names_by (meaning c.args.line.now))

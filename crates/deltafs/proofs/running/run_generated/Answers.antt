@@ -14,6 +14,7 @@ use Rattle.deltafs.specs.declared.words.Command.TheVariants.{Gen}
 use Rattle.deltafs.specs.Lines.{Ends, IsAfter, IsCounted}
 use Rattle.deltafs.specs.Summed.{KeepsSummary}
 use Rattle.deltafs.proofs.Hosts.{value_stays}
+use Rattle.deltafs.proofs.Others.{others_on, others_said}
 use Rattle.deltafs.proofs.Summing.{ends_silent, no_long_script, no_source_fault, summed, sums_now}
 use Rattle.dfs_session.proofs.Writing.{logs_on, logs_said}
 use Rattle.deltafs.proofs.running.run_generated.Goals as goal
@@ -85,3 +86,15 @@ returns-in-Done-clause-logs g c old tells start =
 pub returns-in_default-clause-logs : goal.returns-in_default-clause-logs
 returns-in_default-clause-logs g c old tells start =
     c.run_script.ensures.logs old tells (subst (λ (k : Counts). IsAfter (Gen c.args.creates) old [] (g.H.Host.state c.args.host.now) k c.args.session) (sym c.new-summary.ensures) start)
+
+-- The files that no job of the run has.
+
+pub returns-in-Done-clause-others : goal.returns-in-Done-clause-others
+returns-in-Done-clause-others g c old tells start =
+    let mid_tells = c.run_script.ensures.cause.tells ∙ tells in
+    let first = subst (λ (k : Counts). IsAfter (Gen c.args.creates) old [] (g.H.Host.state c.args.host.now) k c.args.session) (sym c.new-summary.ensures) start in
+    others_on old (c.run_script.ensures.others old tells first) (others_said old (summary_text c.run_script.new.summary) (c.say_summary.ensures.files mid_tells) (c.say_summary.ensures.images mid_tells))
+
+pub returns-in_default-clause-others : goal.returns-in_default-clause-others
+returns-in_default-clause-others g c old tells start =
+    c.run_script.ensures.others old tells (subst (λ (k : Counts). IsAfter (Gen c.args.creates) old [] (g.H.Host.state c.args.host.now) k c.args.session) (sym c.new-summary.ensures) start)

@@ -15,6 +15,7 @@ use Rattle.deltafs.specs.Words.{command_of}
 use Rattle.deltafs.proofs.Completing.{completes_gen, completes_run, completes_unopened, disk_unopened, no_disk_fault, no_output_fault, no_source_fault, no_words, none_by, tells_isolated}
 use Rattle.deltafs.proofs.Faults.{limit_unopened, takes_none}
 use Rattle.deltafs.proofs.Leaving.{idle, opened_first, opening, prompt_idle}
+use Rattle.deltafs.proofs.Others.{others_idle, others_on, others_opened}
 use Rattle.deltafs.proofs.Starting.{gen_run, says_nothing, says_unopened, some_none, is_shut}
 use Rattle.dfs_session.proofs.Writing.{logs_idle, logs_on, opened_logs}
 use Rattle.deltafs.proofs.running.run_within.Goals as goal
@@ -265,3 +266,33 @@ returns-in_default-clause-logs g c old start = logs_idle old (g.H.Host.state c.a
 
 pub returns-in_default-new-clause-logs : goal.returns-in_default-new-clause-logs
 returns-in_default-new-clause-logs g c old start = logs_idle old (g.H.Host.state c.args.host.now)
+
+-- The files that no job of the run has.
+
+pub returns-in-Run-clause-others : goal.returns-in-Run-clause-others
+returns-in-Run-clause-others g c old start =
+    let host = g.H.Host.state c.args.host.now in
+    let source = g.S.Source.state c.args.source.now in
+    let mid = g.H.Host.state c.open.new.host in
+    let kept = (silent_only c.open.ensures.only).content start.host_tells in
+    let first = opened_first (command_of c.args.words.now) old host source start Run mid c.in-Ok-open.session kept (c.in-Ok-open.ensures.stands old start.host_tells start.settled start.value) (c.open.ensures.value start.host_tells (start.settled 0)) in
+    others_on old (others_opened host mid old c.open.ensures.only start.host_tells)
+    (c.run_script.ensures.others old (c.open.ensures.cause.tells ∙ start.host_tells) (subst (λ (k : Counts). IsAfter Run old [] mid k c.in-Ok-open.session) (sym c.new-summary.ensures) first))
+
+pub returns-in-Gen-clause-others : goal.returns-in-Gen-clause-others
+returns-in-Gen-clause-others g c old start =
+    let host = g.H.Host.state c.args.host.now in
+    let source = g.S.Source.state c.args.source.now in
+    let mid = g.H.Host.state c.open.new.host in
+    let kept = (silent_only c.open.ensures.only).content start.host_tells in
+    let first = opened_first (command_of c.args.words.now) old host source start (Gen c.in-Gen.creates) mid c.in-Ok-open.session kept (c.in-Ok-open.ensures.stands old start.host_tells start.settled start.value) (c.open.ensures.value start.host_tells (start.settled 0)) in
+    others_on old (others_opened host mid old c.open.ensures.only start.host_tells) (c.run_generated.ensures.others old (c.open.ensures.cause.tells ∙ start.host_tells) first)
+
+pub returns-in-Err-clause-others : goal.returns-in-Err-clause-others
+returns-in-Err-clause-others g c old start = others_opened (g.H.Host.state c.args.host.now) (g.H.Host.state c.open.new.host) old c.open.ensures.only start.host_tells
+
+pub returns-in_default-clause-others : goal.returns-in_default-clause-others
+returns-in_default-clause-others g c old start = others_idle old (g.H.Host.state c.args.host.now)
+
+pub returns-in_default-new-clause-others : goal.returns-in_default-new-clause-others
+returns-in_default-new-clause-others g c old start = others_idle old (g.H.Host.state c.args.host.now)

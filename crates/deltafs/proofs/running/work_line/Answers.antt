@@ -3,7 +3,9 @@ use Rattle.std.specs.Prelude.{IsTrue}
 use Rattle.dfs_gen.specs.Summary.{counted}
 use Rattle.dfs_host.specs.Host.{LeavesOnly, said_of}
 use Rattle.dfs_reply.specs.Text.{text}
-use Rattle.dfs_session.specs.Session.{step}
+use Rattle.dfs_script.specs.Line.{meaning}
+use Rattle.dfs_session.specs.Run.{session_after}
+use Rattle.dfs_session.specs.Session.{opened, step}
 use Rattle.deltafs.specs.declared.words.Command.{Command}
 use Rattle.deltafs.specs.declared.words.Command.TheVariants.{Run}
 use Rattle.deltafs.specs.Lines.{IsOfLine, Leaves, SaysText}
@@ -11,6 +13,7 @@ use Rattle.deltafs.proofs.Faults.{on_ok, leaves_said, output_alone, says_reply}
 use Rattle.deltafs.proofs.Hosts.{sound_stays, stands_stays, value_stays}
 use Rattle.deltafs.proofs.Leaving.{stepped, replied}
 use Rattle.dfs_session.proofs.Writing.{logs_on, logs_said, silent_these}
+use Rattle.deltafs.proofs.Others.{others_on, others_said, others_step}
 use Rattle.deltafs.proofs.running.work_line.Goals as goal
 
 pub returns-in-Run-clause-ready : goal.returns-in-Run-clause-ready
@@ -88,3 +91,23 @@ pub returns-in-Run-clause-logs : goal.returns-in-Run-clause-logs
 returns-in-Run-clause-logs g c s tells stands =
     let mid_tells = c.step.ensures.cause.tells ∙ tells in
     logs_on _ _ _ s.registry (c.step.ensures.logs s tells stands) (logs_said s.registry c.deref.result.now (c.say.ensures.files mid_tells) (c.say.ensures.images mid_tells))
+
+-- The files that no job of the run has.
+
+pub returns-in-Run-clause-others : goal.returns-in-Run-clause-others
+returns-in-Run-clause-others g c old lines tells stands =
+    let mid_tells = c.step.ensures.cause.tells ∙ tells in
+    others_on old
+    (others_step (g.H.Host.state c.args.host.now) (g.H.Host.state c.step.new.host) c.args.session.now old lines (meaning c.args.line.now) tells c.requires stands c.step.ensures.writes
+    (λ at_once. (c.step.ensures.at_once (session_after (opened old) lines) tells stands at_once).1))
+    (others_said old c.deref.result.now (c.say.ensures.files mid_tells) (c.say.ensures.images mid_tells))
+
+pub returns-in-Ok-clause-others : goal.returns-in-Ok-clause-others
+returns-in-Ok-clause-others g c old lines tells stands =
+    others_step (g.H.Host.state c.args.host.now) (g.H.Host.state c.step.new.host) c.args.session.now old lines (meaning c.args.line.now) tells c.requires stands c.step.ensures.writes
+    (λ at_once. (c.step.ensures.at_once (session_after (opened old) lines) tells stands at_once).1)
+
+pub returns-clause-others : goal.returns-clause-others
+returns-clause-others g c old lines tells stands =
+    others_step (g.H.Host.state c.args.host.now) (g.H.Host.state c.step.new.host) c.args.session.now old lines (meaning c.args.line.now) tells c.requires stands c.step.ensures.writes
+    (λ at_once. (c.step.ensures.at_once (session_after (opened old) lines) tells stands at_once).1)

@@ -10,7 +10,7 @@ use Rattle.std.specs.List.{All, AllByRecursion, AllZip, list_all}
 use Rattle.std.specs.Map.{values_of}
 use Rattle.dfs_host.specs.Disk.{FileState, MayLeave}
 use Rattle.dfs_host.specs.Host.{HostState, LeavesOnly, IsSaying, Only}
-use Rattle.dfs_host.proofs.Moments.{goes_on, started, widened}
+use Rattle.dfs_host.proofs.Moments.{goes_on, widened}
 use Rattle.dfs_record.specs.declared.SnapName.{SnapName}
 use Rattle.dfs_registry.specs.declared.listed.Listed.{Listed}
 use Rattle.dfs_reply.specs.declared.Word.TheVariants as word
@@ -34,7 +34,7 @@ use Rattle.dfs_session.specs.Sound.{IsLive, IsSound, jobs_of, listed_in, live_in
 use Rattle.dfs_session.specs.Stands.{EntryStands, Stands}
 use Rattle.dfs_session.specs.Worked.{IsRefusedAtOnce, job_is, own_log, refused_at_once, writes_by, writes_of}
 use Rattle.dfs_session.specs.Writes.{FileStays, OnlyThese}
-use Rattle.dfs_session.proofs.Writing.{file_stays}
+use Rattle.dfs_session.proofs.Writing.{file_idle, file_stays}
 use Rattle.deltafs.specs.Others.{IsOther, OthersStay}
 
 -- ---- the numbers of jobs
@@ -139,9 +139,6 @@ behind_old : (old : Registry) (lines : List (List ℕ)) → IsBehind (greatest_p
 behind_old old lines = behind_lines (greatest_published old) (opened old) lines (record { greatest = omega arith; jobs = All-nil _ })
 
 -- ---- a file that stays
-
-file_idle : (n : ℕ) (host : HostState) → FileStays n host host
-file_idle n host = record { same = refl; images = started host (λ image is. is.files n) }
 
 file_on : {old mid new : HostState} (n : ℕ) → FileStays n old mid → FileStays n mid new → FileStays n old new
 file_on {old} {mid} {new} n first second = record {

@@ -1,5 +1,5 @@
 -- Lines that change nothing: which replies are those of operations without a record.
-use Rattle.std.proofs.Common.{◌≡◌, ℕ, Bool, true, false, List, [], ◌∷◌, Option, Some, None, Result, refl, sym, subst, cond, length}
+use Rattle.std.proofs.Common.{◌≡◌, Bool, true, false, List, [], ◌∷◌, Option, Some, None, Result, refl, sym, subst, cond, length}
 use Rattle.std.specs.Prelude.{nat_lt, ◌+◌}
 use Rattle.std.specs.Ordering.{is_eq}
 use Rattle.dfs_host.specs.Host.{HostState, OnlyReads}
@@ -18,8 +18,8 @@ use Rattle.dfs_space.specs.Children.{has_child}
 use Rattle.dfs_walk.specs.declared.Walked.{Walked}
 use Rattle.dfs_walk.specs.Walk.{Walk, no_entry, not_dir, at, walk}
 use Rattle.dfs_ops.specs.declared.Ids.{Ids}
-use Rattle.dfs_ops.specs.declared.OpReply.TheVariants.{Done, NotEmpty, Full}
-use Rattle.dfs_ops.specs.Op.{Outcome, only, makes, where_it_ends, at_place, with_found, below_root, found_at, is_found, adds, put, del, unlinks, unlinks_entry, rmdirs, rmdirs_entry, sets_attributes, with_attributes, lists, replaces, moves, is_among, takes, is_root, next_id, outcome}
+use Rattle.dfs_ops.specs.declared.OpReply.TheVariants.{Done, Full}
+use Rattle.dfs_ops.specs.Op.{Outcome, only, makes, where_it_ends, at_place, with_found, below_root, is_found, adds, put, del, unlinks_entry, rmdirs_entry, with_attributes, lists, replaces, moves, is_among, is_root, next_id, outcome}
 use Rattle.dfs_session.specs.Session.{told}
 use Rattle.dfs_session.specs.Worked.{IsSeen, StaysInMemory}
 

@@ -23,9 +23,19 @@ effect None e = e
 effect (Some Del) e = None
 effect (Some (Put x)) e = Some x
 
-or_else-none : (o : Option Value) → or_else o None ≡ o
+pub or_else-none : (o : Option Value) → or_else o None ≡ o
 or_else-none None = refl
 or_else-none (Some v) = refl
+
+or_else-assoc : (a b c : Option Value) → or_else a (or_else b c) ≡ or_else (or_else a b) c
+or_else-assoc None b c = refl
+or_else-assoc (Some v) b c = refl
+
+pub last_value-append : (q : Key) (rs ss : List Record) → last_value q (rs ++ ss) ≡ or_else (last_value q ss) (last_value q rs)
+last_value-append q [] ss = sym (or_else-none (last_value q ss))
+last_value-append q (r ∷ rs) ss =
+    ap (λ o. or_else o (cond (eq_by_cmp key_cmp q r.key) (Some r.value) None)) (last_value-append q rs ss)
+    ∙ sym (or_else-assoc (last_value q ss) (last_value q rs) (cond (eq_by_cmp key_cmp q r.key) (Some r.value) None))
 
 or_else-test : (o p : Option Value) (b : Bool) (v : Value) → or_else o (cond b (Some v) p) ≡ or_else (or_else o (cond b (Some v) None)) p
 or_else-test (Some w) p b v = refl

@@ -17,6 +17,7 @@ impl DirId {
 }
 
 impl Key {
+    /// The same key, with the name lent. A key is always valid.
     pub fn lend(&self) -> KeyRef<'_>
         ensures value { key_of result ≡ self.now }
         ensures valid { IsKey (key_of result) }
@@ -29,6 +30,7 @@ impl Key {
 }
 
 impl Value {
+    /// The same value, with the reference lent.
     pub fn lend(&self) -> ValueRef<'_>
         ensures { value_of result ≡ self.now }
     {
@@ -57,6 +59,7 @@ impl Value {
 }
 
 impl Record {
+    /// The same record, with the name and the reference lent.
     pub fn lend(&self) -> RecordRef<'_>
         requires { IsRecord self.now }
         ensures value { record_of result ≡ self.now }

@@ -3,4 +3,3 @@ pub mod Built
 pub mod Front
 pub mod Left
 pub mod Read
-pub mod Same

@@ -51,7 +51,7 @@ impl<'a> BlockRecords<'a> {
 impl Records for BlockRecords<'_> {
     ghost use Rattle.std.specs.Prelude.{◌≡◌, None, refl};
     ghost use Rattle.dfs_block.specs.Left.{records_left};
-    ghost use Rattle.dfs_block.specs.Same.{same_rises, same_begins};
+    ghost use Rattle.dfs_record.specs.Same.{same_rises, same_begins, same_one};
 
     ghost rest = { λ s. records_left s.first s.left s.behind.now };
 
@@ -83,4 +83,6 @@ impl Records for BlockRecords<'_> {
     ghost comes_begins = { λ s files l e. same_begins (records_left s.first s.left s.behind.now) l e };
 
     ghost comes_loaded = { λ s files l e _. e };
+
+    ghost comes_one = { λ s files l m e d. same_one (records_left s.first s.left s.behind.now) l m e d };
 }

@@ -177,3 +177,6 @@ module _ (low high : Option Key) (Comes : Files → List Record → Type 0) (fil
           let front = begins h.0 h.1 in
           h.2 ∙ ap (part low high) front.1 ∙ reached low high rest front.0 e (subst KeysRise front.1 (rises h.0 h.1))
       by false e z = h.2 ∙ ap (part low high) (loaded h.0 h.1 z)
+
+  pub comes_one : ((v w : List Record) → Comes files v → Comes files w → v ≡ w) → (m : List Record) → PartComes low high Comes files m → l ≡ m
+  comes_one one m k = h.2 ∙ ap (part low high) (one h.0 k.0 h.1 k.1) ∙ sym k.2

@@ -46,4 +46,6 @@ impl<A: Records, B: Records> Records for EitherRecords<A, B> {
     ghost comes_begins = { elim [ First x ↦ A.comes_begins x | Second y ↦ B.comes_begins y ] };
 
     ghost comes_loaded = { elim [ First x ↦ A.comes_loaded x | Second y ↦ B.comes_loaded y ] };
+
+    ghost comes_one = { elim [ First x ↦ A.comes_one x | Second y ↦ B.comes_one y ] };
 }

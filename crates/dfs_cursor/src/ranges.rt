@@ -1,11 +1,11 @@
 //! A part of other records.
 
-ghost use Rattle.std.specs.Prelude.{◌≡◌, ℕ, ◌<◌, List, [], length, drop, Option, None, option_copied, IsTrue, ◌&&◌, not};
+ghost use Rattle.std.specs.Prelude.{◌≡◌, ◌↔◌, ℕ, ◌<◌, List, [], length, drop, Option, None, option_copied, IsTrue, ◌&&◌, not};
 ghost use Rattle.dfs_record.specs.declared.Key.{Key as OwnKey};
 ghost use Rattle.dfs_record.specs.declared.Record.{Record as OwnRecord};
 ghost use Rattle.dfs_record.specs.Lend.{key_of};
 ghost use Rattle.dfs_record.specs.Records.{Files};
-ghost use Rattle.dfs_cursor.specs.Ranges.{is_from as is_key_from, is_up_to as is_key_up_to, part, reaches, unread_of, bound_of, PartComes, HasPassed, begins_at, part_rises, part_none, part_above, comes_rises as part_comes_rises, comes_begins as part_comes_begins, comes_loaded as part_comes_loaded};
+ghost use Rattle.dfs_cursor.specs.Ranges.{is_from as is_key_from, is_up_to as is_key_up_to, part, reaches, unread_of, bound_of, PartComes, HasPassed, begins_at, part_rises, part_none, part_above, comes_rises as part_comes_rises, comes_begins as part_comes_begins, comes_loaded as part_comes_loaded, comes_one as part_comes_one};
 
 use dfs_record::{Head, Key, KeyRef, Records};
 use std::cmp::Ordering;
@@ -46,7 +46,8 @@ impl<'a, C: Records> RangeRecords<'a, C> {
         ensures rest { ⟦<RangeRecords<'a, C> as Records>⟧.rest result ≡ part (option_copied low.entry) (option_copied high.entry) (C.rest inner) }
         ensures unread { ⟦<RangeRecords<'a, C> as Records>⟧.unread result ≡ unread_of (option_copied high.entry) (C.rest inner) (C.unread inner) }
         ensures bound { ⟦<RangeRecords<'a, C> as Records>⟧.bound result ≡ bound_of (option_copied high.entry) (C.rest inner) (C.bound inner) }
-        ensures comes { (files : Files) (l : List OwnRecord) → C.Comes inner files l → ⟦<RangeRecords<'a, C> as Records>⟧.Comes result files (part (option_copied low.entry) (option_copied high.entry) l) }
+        // Over files where a list comes of `inner`, just its part comes.
+        ensures comes { (files : Files) (l : List OwnRecord) → C.Comes inner files l → (m : List OwnRecord) → ⟦<RangeRecords<'a, C> as Records>⟧.Comes result files m ↔ (m ≡ part (option_copied low.entry) (option_copied high.entry) l) }
     {
         pass_below(&mut inner, low, high);
         RangeRecords { inner, low, high }
@@ -91,6 +92,8 @@ impl<C: Records> Records for RangeRecords<'_, C> {
     ghost comes_begins = { λ s files l h. part_comes_begins (option_copied s.low) (option_copied s.high) (C.Comes s.inner) files l h (C.rest s.inner) (C.comes_begins s.inner files) };
 
     ghost comes_loaded = { λ s files l h. part_comes_loaded (option_copied s.low) (option_copied s.high) (C.Comes s.inner) files l h (C.rest s.inner) (C.unread s.inner) (C.comes_rises s.inner files) (C.comes_begins s.inner files) (C.comes_loaded s.inner files) };
+
+    ghost comes_one = { λ s files l m h k. part_comes_one (option_copied s.low) (option_copied s.high) (C.Comes s.inner) files l h (C.comes_one s.inner files) m k };
 }
 
 /// Passes the records that lie below both ends.

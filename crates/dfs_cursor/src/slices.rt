@@ -6,7 +6,7 @@ ghost use Rattle.dfs_record.specs.declared.Record.{Record as OwnRecord};
 ghost use Rattle.dfs_record.specs.Record.{IsRecord};
 ghost use Rattle.dfs_record.specs.Records.{Files, KeysRise};
 ghost use Rattle.dfs_record.specs.Valid.{IsRecord-prop};
-ghost use Rattle.dfs_cursor.specs.Slices.{same_rises, same_begins};
+ghost use Rattle.dfs_record.specs.Same.{same_rises, same_begins, same_one};
 
 use dfs_record::{Head, Record, Records};
 
@@ -19,6 +19,7 @@ pub struct SliceRecords<'a> {
 }
 
 impl<'a> SliceRecords<'a> {
+    /// A source of these records, in the order that they have. Over any files just they come.
     pub fn new(records: &'a [Record]) -> SliceRecords<'a>
         requires rises { KeysRise records.now }
         requires valid { All IsRecord records.now }
@@ -61,4 +62,6 @@ impl Records for SliceRecords<'_> {
     ghost comes_begins = { λ s files l e. same_begins s.records.now l e };
 
     ghost comes_loaded = { λ s files l h _. h };
+
+    ghost comes_one = { λ s files l m e d. same_one s.records.now l m e d };
 }

@@ -5,8 +5,8 @@ ghost use Rattle.std.proofs.Props.{props};
 ghost use Rattle.dfs_record.specs.declared.Record.{Record as OwnRecord};
 ghost use Rattle.dfs_record.specs.Record.{IsRecord};
 ghost use Rattle.dfs_record.specs.Records.{KeysRise};
+ghost use Rattle.dfs_record.specs.Same.{same_rises, same_begins, same_one};
 ghost use Rattle.dfs_record.specs.Valid.{IsRecord-prop};
-ghost use Rattle.dfs_cursor.specs.Slices.{same_rises, same_begins};
 
 use dfs_record::{Head, Record, Records};
 
@@ -82,4 +82,6 @@ impl Records for BufferRecords<'_> {
     ghost comes_begins = { λ s files l e. same_begins (s.records.now ++ flat_map (λ c. c.items) s.behind.now) l e };
 
     ghost comes_loaded = { λ s files l h _. h };
+
+    ghost comes_one = { λ s files l m e d. same_one (s.records.now ++ flat_map (λ c. c.items) s.behind.now) l m e d };
 }

@@ -19,10 +19,10 @@ use Rattle.dfs_record.specs.Lend.{key_of, record_of}
 use Rattle.dfs_record.specs.declared.records.Head.{Head}
 use Rattle.dfs_record.specs.declared.records.Head.TheVariants.{Item, Hungry, End}
 use Rattle.dfs_record.proofs.Maps.{same_key}
-use Rattle.dfs_record.proofs.Replays.{get-delta}
+use Rattle.dfs_record.proofs.Replays.{get-delta, last_value-append}
 use Rattle.dfs_merge.specs.Sources.{Source, ended, is_loaded_to, is_settled, kept, merged_rest, all_unread}
 use Rattle.dfs_merge.specs.Rank.{Rank, rank_by, rank, rank_cmp, rank_at, IsFirst, no_key, head_cmp}
-use Rattle.dfs_merge.specs.Laws.{last-append, get-kept, absent_above}
+use Rattle.dfs_merge.specs.Laws.{get-kept, absent_above}
 use Rattle.dfs_cursor.specs.Ranges.{first, second, less}
 
 pub rank_total : IsTotalOrder rank_cmp
@@ -110,18 +110,18 @@ rests ss = flat_map (λ s. s.rest) ss
 none_of_all : (ss : List Source) (q : Key) → ((i : ℕ) → i < length ss → last_value q (get_or ss i ended).rest ≡ None) → last_value q (rests ss) ≡ None
 none_of_all [] q h = refl
 none_of_all (s ∷ ss) q h =
-    last-append q s.rest (rests ss)
+    last_value-append q s.rest (rests ss)
     ∙ ap (λ o. or_else o (last_value q s.rest)) (none_of_all ss q (λ i l. h (suc i) (omega arith)))
     ∙ h 0 (omega arith)
 
 value_of_one : (ss : List Source) (t : ℕ) (k : Key) (v : Value) → t < length ss → last_value k (get_or ss t ended).rest ≡ Some v → ((i : ℕ) → t < i → i < length ss → last_value k (get_or ss i ended).rest ≡ None) → last_value k (rests ss) ≡ Some v
 value_of_one [] t k v l e h = absurd (omega arith)
 value_of_one (s ∷ ss) zero k v l e h =
-    last-append k s.rest (rests ss)
+    last_value-append k s.rest (rests ss)
     ∙ ap (λ o. or_else o (last_value k s.rest)) (none_of_all ss k (λ i m. h (suc i) (omega arith) (omega arith)))
     ∙ e
 value_of_one (s ∷ ss) (suc t) k v l e h =
-    last-append k s.rest (rests ss)
+    last_value-append k s.rest (rests ss)
     ∙ ap (λ o. or_else o (last_value k s.rest)) (value_of_one ss t k v (omega arith) e (λ i m n. h (suc i) (omega arith) (omega arith)))
 
 -- ---- the first entry

@@ -14,9 +14,9 @@ use Rattle.dfs_record.specs.KeyMap.{get, remove}
 use Rattle.dfs_record.specs.Delta.{Delta, delta, records_of, merged, last_value, or_else}
 use Rattle.dfs_record.specs.Records.{IsBelow}
 use Rattle.dfs_record.proofs.Maps.{same_map, alike_keys, same_key, get-remove}
-use Rattle.dfs_record.proofs.Replays.{get-delta}
+use Rattle.dfs_record.proofs.Replays.{get-delta, last_value-append, or_else-none}
 use Rattle.dfs_merge.specs.Sources.{Source, is_settled, kept, merged_rest, all_unread, least_bound, lesser, without, taken}
-use Rattle.dfs_merge.specs.Laws.{last-append, get-kept}
+use Rattle.dfs_merge.specs.Laws.{get-kept}
 use Rattle.dfs_cursor.specs.Ranges.{first, second, less}
 use Rattle.dfs_merge.proofs.Firsts.{listed, rests}
 
@@ -25,10 +25,6 @@ use Rattle.dfs_merge.proofs.Firsts.{listed, rests}
 abbrev first_key : List Record → Key → Key
 first_key [] k = k
 first_key (r ∷ rs) k = r.key
-
-or_else_none : (o : Option Value) → or_else o None ≡ o
-or_else_none None = refl
-or_else_none (Some v) = refl
 
 value_without : (k q : Key) (rs : List Record) → last_value q (without k rs) ≡ cond (eq_by_cmp key_cmp q k) None (last_value q rs)
 value_without k q [] = same_none (eq_by_cmp key_cmp q k)
@@ -43,7 +39,7 @@ value_without k q (r ∷ rs) = by (eq_by_cmp key_cmp k r.key) refl (eq_by_cmp ke
     by true e true f ih = ih ∙ ap (λ b. cond b None (last_value q rs)) f
     by true e false f ih =
         ih ∙ ap (λ b. cond b None (last_value q rs)) f
-        ∙ sym (ap (λ b. or_else (last_value q rs) (cond b (Some r.value) None)) (ap (λ x. eq_by_cmp key_cmp q x) (sym (alike_keys k r.key e)) ∙ f) ∙ or_else_none (last_value q rs))
+        ∙ sym (ap (λ b. or_else (last_value q rs) (cond b (Some r.value) None)) (ap (λ x. eq_by_cmp key_cmp q x) (sym (alike_keys k r.key e)) ∙ f) ∙ or_else-none (last_value q rs))
     by false e true f ih =
         ap (λ o. or_else o (cond (eq_by_cmp key_cmp q r.key) (Some r.value) None)) (ih ∙ ap (λ b. cond b None (last_value q rs)) f)
         ∙ ap (λ b. cond b (Some r.value) None) (ap (λ x. eq_by_cmp key_cmp x r.key) (alike_keys q k f) ∙ e)
@@ -52,10 +48,10 @@ value_without k q (r ∷ rs) = by (eq_by_cmp key_cmp k r.key) refl (eq_by_cmp ke
 flat_without : {X : Type 0} (f : X → List Record) (k q : Key) (xs : List X) → last_value q (flat_map (λ x. without k (f x)) xs) ≡ cond (eq_by_cmp key_cmp q k) None (last_value q (flat_map f xs))
 flat_without f k q [] = value_without k q []
 flat_without f k q (x ∷ xs) =
-    last-append q (without k (f x)) (flat_map (λ x. without k (f x)) xs)
+    last_value-append q (without k (f x)) (flat_map (λ x. without k (f x)) xs)
     ∙ (λ i. or_else (flat_without f k q xs i) (value_without k q (f x) i))
     ∙ both (eq_by_cmp key_cmp q k)
-    ∙ ap (cond (eq_by_cmp key_cmp q k) None) (sym (last-append q (f x) (flat_map f xs)))
+    ∙ ap (cond (eq_by_cmp key_cmp q k) None) (sym (last_value-append q (f x) (flat_map f xs)))
   where
     both : (b : Bool) → or_else (cond b None (last_value q (flat_map f xs))) (cond b None (last_value q (f x))) ≡ cond b None (or_else (last_value q (flat_map f xs)) (last_value q (f x)))
     both true = refl

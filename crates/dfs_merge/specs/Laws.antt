@@ -1,7 +1,7 @@
 -- The laws of a merge, from those of its sources.
 use Rattle.std.specs.Prelude.{◌≡◌, ◌↔◌, ℕ, ◌+◌, Bool, true, false, ◌&&◌, ◌||◌, ◌==◌, T, List, [], ◌∷◌, ◌++◌, map, flat_map, Option, Some, None, All, refl}
 use Rattle.std.proofs.Common.{sym, ap, subst, ◌∙◌, cond, arith, eqb-true, not}
-use Rattle.std.specs.List.{list_any}
+use Rattle.std.specs.List.{AllByRecursion, list_any}
 use Rattle.std.specs.Ordering.{is_lt, is_le, is_eq, eq_by_cmp}
 use Rattle.std.specs.FinMap.Entries.{where_key, find-where_key, below_all, is_sorted}
 use Rattle.std.specs.declared.cmp.Ordering.{Ordering}
@@ -16,25 +16,9 @@ use Rattle.dfs_record.specs.KeyMap.{get}
 use Rattle.dfs_record.specs.Delta.{Delta, delta, records_of, merged, last_value, or_else}
 use Rattle.dfs_record.specs.Records.{Files, KeysRise, IsPrefix, IsAbove, IsBelow}
 use Rattle.dfs_record.proofs.Maps.{same_map}
-use Rattle.dfs_record.proofs.Replays.{get-delta, rising_records}
+use Rattle.dfs_record.proofs.Replays.{get-delta, last_value-append, rising_records}
 use Rattle.dfs_cursor.specs.Ranges.{first, second, less}
 use Rattle.dfs_merge.specs.Sources.{Source, is_loaded_to, is_settled, kept, merged_rest, all_unread, lesser, least_bound, source, sources, AllCome, MergedComes}
-
--- ---- values of lists that are joined
-
-or_else-assoc : (a b c : Option Value) → or_else a (or_else b c) ≡ or_else (or_else a b) c
-or_else-assoc None b c = refl
-or_else-assoc (Some v) b c = refl
-
-or_else-none : (o : Option Value) → or_else o None ≡ o
-or_else-none None = refl
-or_else-none (Some v) = refl
-
-pub last-append : (q : Key) (rs ss : List Record) → last_value q (rs ++ ss) ≡ or_else (last_value q ss) (last_value q rs)
-last-append q [] ss = sym (or_else-none (last_value q ss))
-last-append q (r ∷ rs) ss =
-    ap (λ o. or_else o (cond (eq_by_cmp key_cmp q r.key) (Some r.value) None)) (last-append q rs ss)
-    ∙ sym (or_else-assoc (last_value q ss) (last_value q rs) (cond (eq_by_cmp key_cmp q r.key) (Some r.value) None))
 
 -- ---- a part of a change set by a test of its keys
 
@@ -253,7 +237,7 @@ module _ {S : Type 0} (rest : S → List Record) (unread : S → ℕ) (bound : S
       by false z t =
           let a = laws s l h in
           let more = a.begins.0 in
-          sym (ap (last_value q) a.begins.1 ∙ last-append q (rest s) more ∙ ap (λ o. or_else o (last_value q (rest s))) (loaded_value q (rest s) more (subst KeysRise a.begins.1 a.rises) t))
+          sym (ap (last_value q) a.begins.1 ∙ last_value-append q (rest s) more ∙ ap (λ o. or_else o (last_value q (rest s))) (loaded_value q (rest s) more (subst KeysRise a.begins.1 a.rises) t))
 
   all_value : (ss : List S) (ls : List (List Record)) (q : Key) → AllCome Comes files ss ls → is_settled (sources rest unread bound ss) q ≡ true
       → last_value q (flat_map (λ s. s.rest) (sources rest unread bound ss)) ≡ last_value q (flat_map (λ rs. rs) ls)
@@ -262,9 +246,9 @@ module _ {S : Type 0} (rest : S → List Record) (unread : S → ℕ) (bound : S
   all_value (s ∷ ss) [] q h t = absurd h
   all_value (s ∷ ss) (l ∷ ls) q h t =
       let p = and_parts (is_loaded_to q (source rest unread bound s)) (is_settled (sources rest unread bound ss) q) t in
-      last-append q (rest s) (flat_map (λ s. s.rest) (sources rest unread bound ss))
+      last_value-append q (rest s) (flat_map (λ s. s.rest) (sources rest unread bound ss))
       ∙ (λ i. or_else (all_value ss ls q h.1 p.1 i) (one_value s l q h.0 p.0 i))
-      ∙ sym (last-append q l (flat_map (λ rs. rs) ls))
+      ∙ sym (last_value-append q l (flat_map (λ rs. rs) ls))
 
   pub comes_rises : (ss : List S) (l : List Record) → MergedComes Comes ss files l → KeysRise l
   comes_rises ss l h = subst KeysRise (sym h.2) (rising_records (delta (flat_map (λ rs. rs) h.0)))
@@ -299,7 +283,26 @@ module _ {S : Type 0} (rest : S → List Record) (unread : S → ℕ) (bound : S
       let same : kept p d ≡ d = same_map _ _ (λ q. get-kept p d q ∙ ap (λ c. cond c (get d q) None) (all_settled ss q z)) in
       h.2 ∙ ap (λ rs. records_of (delta rs)) (all_loaded ss h.0 h.1 z) ∙ ap records_of (sym same)
 
+-- ---- at most one list comes
+
+all_one : {S : Type 0} (Comes : S → Files → List Record → Type 0) (files : Files) → ((s : S) (l m : List Record) → Comes s files l → Comes s files m → l ≡ m)
+    → (ss : List S) (ls ms : List (List Record)) → AllCome Comes files ss ls → AllCome Comes files ss ms → ls ≡ ms
+all_one Comes files one [] [] [] h k = refl
+all_one Comes files one [] [] (m ∷ ms) h k = absurd k
+all_one Comes files one [] (l ∷ ls) ms h k = absurd h
+all_one Comes files one (s ∷ ss) [] ms h k = absurd h
+all_one Comes files one (s ∷ ss) (l ∷ ls) [] h k = absurd k
+all_one Comes files one (s ∷ ss) (l ∷ ls) (m ∷ ms) h k = λ i. one s l m h.0 k.0 i ∷ all_one Comes files one ss ls ms h.1 k.1 i
+
+pub comes_one : {S : Type 0} (Comes : S → Files → List Record → Type 0) (files : Files) → ((s : S) (l m : List Record) → Comes s files l → Comes s files m → l ≡ m)
+    → (ss : List S) (l m : List Record) → MergedComes Comes ss files l → MergedComes Comes ss files m → l ≡ m
+comes_one Comes files one ss l m h k = h.2 ∙ ap merged (all_one Comes files one ss h.0 k.0 h.1 k.1) ∙ sym k.2
+
 -- ---- where nothing is left to load
+
+pub none_unread : {S : Type 0} (rest : S → List Record) (unread : S → ℕ) (bound : S → Option Key) (ss : List S) → AllByRecursion (λ s. unread s ≡ 0) ss → all_unread (sources rest unread bound ss) ≡ 0
+none_unread rest unread bound [] none = refl
+none_unread rest unread bound (s ∷ ss) none = omega (arith, none.0, none_unread rest unread bound ss none.1)
 
 flat_rests : {S : Type 0} (rest : S → List Record) (unread : S → ℕ) (bound : S → Option Key) (ss : List S) → flat_map (λ s. s.rest) (sources rest unread bound ss) ≡ flat_map (λ rs. rs) (map rest ss)
 flat_rests rest unread bound [] = refl

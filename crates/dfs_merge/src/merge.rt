@@ -4,7 +4,7 @@ ghost use Rattle.std.specs.Prelude.{◌≡◌, ◌↔◌, ◌<◌, List, IfOk, l
 ghost use Rattle.dfs_record.specs.Delta.{merged};
 ghost use Rattle.dfs_record.specs.Records.{Files};
 ghost use Rattle.dfs_record.specs.declared.Record.{Record as OwnRecord};
-ghost use Rattle.dfs_merge.specs.Laws.{rest_rises as merge_rises, bound_none as merge_bound_none, bound_above as merge_bound_above, comes_rises as merge_comes_rises, comes_begins as merge_comes_begins, comes_loaded as merge_comes_loaded};
+ghost use Rattle.dfs_merge.specs.Laws.{rest_rises as merge_rises, bound_none as merge_bound_none, bound_above as merge_bound_above, comes_rises as merge_comes_rises, comes_begins as merge_comes_begins, comes_loaded as merge_comes_loaded, comes_one as merge_comes_one};
 ghost use Rattle.dfs_merge.specs.Sources.{sources as sources_of, merged_rest, all_unread, least_bound, MergedComes, IsMergePassed};
 ghost use Rattle.dfs_merge.specs.Tree.{IsTournament};
 
@@ -85,6 +85,8 @@ impl<C: Records> Records for Merge<C> {
     ghost comes_begins = { λ s files l h. merge_comes_begins C.rest C.unread C.bound C.Comes files (λ t m e. record { rises = C.comes_rises t files m e; begins = C.comes_begins t files m e; loaded = C.comes_loaded t files m e }) s l h };
 
     ghost comes_loaded = { λ s files l h. merge_comes_loaded C.rest C.unread C.bound C.Comes files (λ t m e. record { rises = C.comes_rises t files m e; begins = C.comes_begins t files m e; loaded = C.comes_loaded t files m e }) s l h };
+
+    ghost comes_one = { λ s files. merge_comes_one C.Comes files (λ t. C.comes_one t files) s };
 }
 
 /// Takes the first key off all sources.

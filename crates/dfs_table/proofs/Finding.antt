@@ -1,6 +1,6 @@
 -- Which block has the record with a key, and where its bytes stand among those of all.
 use Rattle.std.proofs.Common.{◌≡◌, ℕ, zero, suc, ◌+◌, ◌<◌, ◌≤◌, Bool, true, false, List, [], ◌∷◌, ◌++◌, length, get_or, take, drop, refl, sym, ap, subst, ◌∙◌, arith, append_assoc, length-append, length-take, length-drop}
-use Rattle.std.specs.Prelude.{Option, Some, None, slice_get}
+use Rattle.std.specs.Prelude.{Some, None, slice_get}
 use Rattle.std.specs.List.{AllByRecursion}
 use Rattle.std.specs.Ordering.{is_lt, ordering_reverse}
 use Rattle.std.specs.declared.cmp.Ordering.TheVariants.{Greater}
@@ -8,10 +8,10 @@ use Rattle.std.proofs.lemmas.List.{drop_at, take_at}
 use Rattle.std.proofs.lemmas.Option.{same_Some, slice_get_read, slice_get_within}
 use Rattle.dfs_record.specs.declared.Key.{Key}
 use Rattle.dfs_record.specs.declared.Record.{Record}
-use Rattle.dfs_record.specs.declared.Value.{Value}
 use Rattle.dfs_record.specs.Delta.{last_value, or_else}
 use Rattle.dfs_record.specs.Key.{key_cmp, keys_total}
 use Rattle.dfs_record.specs.Records.{KeysRise, IsBelow}
+use Rattle.dfs_record.proofs.Replays.{last_value-append, or_else-none}
 use Rattle.dfs_block.specs.Block.{IsBlock, first_key, last_key}
 use Rattle.dfs_block.proofs.Rising.{above_last, rise_behind, value_less, value_greater}
 use Rattle.dfs_fence.specs.declared.fence.Fence.{Fence}
@@ -92,21 +92,6 @@ module _ (t : Table) (i start : ℕ) (there : start ≡ get_or t.starts.items i 
   is_block = ap (λ (l : List ℕ). take f.len (drop start l)) is.blocks ∙ read_there where_it_says inside
 
 -- ---- the value of a key
-
-pub or_else-none : (o : Option Value) → or_else o None ≡ o
-or_else-none None = refl
-or_else-none (Some v) = refl
-
-pub last_value-append : (q : Key) (rs ss : List Record) → last_value q (rs ++ ss) ≡ or_else (last_value q ss) (last_value q rs)
-last_value-append q [] ss = sym (or_else-none (last_value q ss))
-last_value-append q (r ∷ rs) ss = ap (λ o. or_else o own) (last_value-append q rs ss) ∙ regroup (last_value q ss) (last_value q rs)
-  where
-    own : Option Value
-    own = last_value q (r ∷ [])
-
-    regroup : (a b : Option Value) → or_else (or_else a b) own ≡ or_else a (or_else b own)
-    regroup None b = refl
-    regroup (Some v) b = refl
 
 -- below the first key
 none_below : (q : Key) (rs : List Record) (first : Key) → KeysRise rs → first_key rs ≡ Some first → IsBelow q first → last_value q rs ≡ None

@@ -10,6 +10,7 @@ use Rattle.dfs_record.specs.declared.Key.{Key}
 use Rattle.dfs_record.specs.Delta.{last_value, or_else}
 use Rattle.dfs_record.specs.Key.{key_cmp}
 use Rattle.dfs_record.specs.Records.{IsBelow}
+use Rattle.dfs_record.proofs.Replays.{last_value-append, or_else-none}
 use Rattle.dfs_fence.specs.declared.fence.Fence.{Fence}
 use Rattle.dfs_fence.specs.Cover.{CoversAt}
 use Rattle.dfs_fence.specs.Index.{AreApart, AreFences, IsAtMost, IsFence, last_end}
@@ -20,7 +21,7 @@ use Rattle.dfs_table.specs.declared.table.Table.{Table}
 use Rattle.dfs_table.specs.Spans.{IsEndsPoint, NoneSpans, Spans, SpansAt, ends_below, first_begin}
 use Rattle.dfs_table.specs.Stored.{IsTableOf, run_records, table_records}
 use Rattle.dfs_table.specs.Tables.{AreTables, all_fences}
-use Rattle.dfs_table.proofs.Finding.{found_nowhere, last_value-append, or_else-none}
+use Rattle.dfs_table.proofs.Finding.{found_nowhere}
 
 -- ---- the first key and the last one of a table
 

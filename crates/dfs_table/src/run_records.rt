@@ -1,6 +1,6 @@
 //! The records of a run, one after the other.
 
-ghost use Rattle.std.specs.Prelude.{◌≡◌, ◌<◌, ◌≤◌, ◌-◌, ◌∷◌, ◌++◌, ℕ, List, [], length, true, false, IsTrue, IfOk, IfSome, IsSomeAnd, Some, None, option_copied, slice_get, take, drop, refl};
+ghost use Rattle.std.specs.Prelude.{◌≡◌, ◌↔◌, ◌<◌, ◌≤◌, ◌-◌, ◌∷◌, ◌++◌, ℕ, List, [], length, true, false, IsTrue, IfOk, IfSome, IsSomeAnd, Some, None, option_copied, slice_get, take, drop, refl};
 ghost use Rattle.std.specs.List.{AllByRecursion};
 ghost use Rattle.dfs_record.specs.declared.Key.{Key as OwnKey};
 ghost use Rattle.dfs_record.specs.declared.Record.{Record as OwnRecord};
@@ -54,7 +54,8 @@ impl<'a> RunRecords<'a> {
         high: Option<&Key>,
     ) -> Result<RunRecords<'a>, NoMemory>
         ensures rest { (file : List ℕ) → AllByRecursion (IsTableOf file) run.entry.now.tables → IfOk result (λ records. ⟦<RunRecords<'a> as Records>⟧.rest records ≡ records_meeting (option_copied low.entry) (option_copied high.entry) file run.entry.now.tables) }
-        ensures comes { (files : Files) (number : ℕ) → AllByRecursion (IsTableOf (files number)) run.entry.now.tables → IfOk result (λ records. ⟦<RunRecords<'a> as Records>⟧.Comes records files (records_meeting (option_copied low.entry) (option_copied high.entry) (files number) run.entry.now.tables)) }
+        // Over files in one of which the run is stored, just these records come.
+        ensures comes { (files : Files) (number : ℕ) → AllByRecursion (IsTableOf (files number)) run.entry.now.tables → IfOk result (λ records. (l : List OwnRecord) → ⟦<RunRecords<'a> as Records>⟧.Comes records files l ↔ (l ≡ records_meeting (option_copied low.entry) (option_copied high.entry) (files number) run.entry.now.tables)) }
         ensures unread { IfOk result (λ records. ⟦<RunRecords<'a> as Records>⟧.unread records ≡ 0) }
         // On every host: no more records than the fences count.
         ensures few { IfOk result (λ records. length (⟦<RunRecords<'a> as Records>⟧.rest records) ≤ count_of (all_fences run.entry.now.tables)) }
@@ -90,7 +91,7 @@ impl<'a> RunRecords<'a> {
 
 impl Records for RunRecords<'_> {
     ghost use Rattle.std.specs.Prelude.{◌≡◌, None, refl};
-    ghost use Rattle.dfs_block.specs.Same.{same_rises, same_begins};
+    ghost use Rattle.dfs_record.specs.Same.{same_rises, same_begins, same_one};
     ghost use Rattle.dfs_table.specs.RunRecords.{blocks_left, coming, rest_of, rest_rises};
 
     ghost rest = { λ s. rest_of s.first (coming s.left s.bytes.now (blocks_left s.blocks.high s.blocks.tables.now s.blocks.next s.blocks.bytes.now)) };
@@ -126,6 +127,8 @@ impl Records for RunRecords<'_> {
     ghost comes_begins = { λ s files l e. same_begins _ l e };
 
     ghost comes_loaded = { λ s files l e _. e };
+
+    ghost comes_one = { λ s files l m e d. same_one _ l m e d };
 }
 
 impl<'a> Blocks<'a> {

@@ -15,7 +15,9 @@ returns-clause-rest c = λ file each.
     (meeting_rises (option_copied c.args.low) (option_copied c.args.high) file c.args.run.now.tables c.new.ensures.tables each)
 
 pub returns-clause-comes : goal.returns-clause-comes
-returns-clause-comes c = λ files number each. sym (returns-clause-rest c (files number) each)
+returns-clause-comes c = λ files number each l.
+    let e = returns-clause-rest c (files number) each in
+    (λ h. h ∙ e, λ h. h ∙ sym e)
 
 pub returns-clause-few : goal.returns-clause-few
 returns-clause-few c =

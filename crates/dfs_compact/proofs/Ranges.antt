@@ -20,7 +20,6 @@ use Rattle.dfs_fence.specs.declared.fence.Fence.{Fence}
 use Rattle.dfs_fence.specs.Index.{IsAtMost}
 use Rattle.dfs_fence.specs.Ranges.{has_room, is_below, is_from, meets}
 use Rattle.dfs_fence.proofs.Orders.{at_most_below, below_at_most, less, not_both}
-use Rattle.dfs_merge.specs.Sources.{all_unread, sources}
 use Rattle.dfs_table.specs.declared.run.Run.{Run}
 use Rattle.dfs_table.specs.RunRecords.{records_meeting}
 use Rattle.dfs_table.specs.Stored.{IsBlockOf, records_at, records_by}
@@ -144,10 +143,6 @@ part_few low high (r ∷ rs) = by (is_within low high r.key) (part_few low high 
     by false h = omega (arith, h)
 
 -- ---- all sources together
-
-pub none_unread : {S : Type 0} (rest : S → List Record) (unread : S → ℕ) (bound : S → Option Key) (ss : List S) → AllByRecursion (λ s. unread s ≡ 0) ss → all_unread (sources rest unread bound ss) ≡ 0
-none_unread rest unread bound [] none = refl
-none_unread rest unread bound (s ∷ ss) none = omega (arith, none.0, none_unread rest unread bound ss none.1)
 
 pub all_lengths : {S : Type 0} (rest : S → List Record) (ss : List S) → length (flat_map (λ (rs : List Record). rs) (map rest ss)) ≡ sum_by (λ s. length (rest s)) ss
 all_lengths rest [] = refl

@@ -7,10 +7,11 @@ use Rattle.std.specs.List.{AllByRecursion}
 use Rattle.dfs_record.specs.declared.Record.{Record}
 use Rattle.dfs_record.specs.Delta.{merged}
 use Rattle.dfs_cursor.specs.Ranges.{is_within}
+use Rattle.dfs_merge.specs.Laws.{none_unread}
 use Rattle.dfs_table.specs.Writer.{KeyPasses}
 use Rattle.dfs_compact.specs.Parts.{count_all}
 use Rattle.dfs_compact.proofs.Cutting.{few_of, merged_within}
-use Rattle.dfs_compact.proofs.Ranges.{none_unread, ok_by, ok_to}
+use Rattle.dfs_compact.proofs.Ranges.{ok_by, ok_to}
 use Rattle.dfs_compact.proofs.sources.merged.Goals as goal
 
 pub returns-clause-rest : goal.returns-clause-rest

@@ -8,11 +8,10 @@ use Rattle.dfs_record.specs.declared.Record.{Record}
 use Rattle.dfs_record.specs.declared.Value.{Value}
 use Rattle.dfs_record.specs.Delta.{Delta, last_value, or_else, records_of}
 use Rattle.dfs_record.specs.KeyMap.{get}
-use Rattle.dfs_record.proofs.Replays.{last_of_own}
+use Rattle.dfs_record.proofs.Replays.{last_of_own, last_value-append, or_else-none}
 use Rattle.dfs_table.specs.declared.table.Table.{Table}
 use Rattle.dfs_table.specs.Spans.{NoneSpans, SpansAt}
 use Rattle.dfs_table.specs.Stored.{IsTableOf, table_records}
-use Rattle.dfs_table.proofs.Finding.{last_value-append, or_else-none}
 use Rattle.dfs_table.proofs.Searching.{outside}
 
 -- ---- tables, each in its own file

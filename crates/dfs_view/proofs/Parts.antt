@@ -22,7 +22,6 @@ use Rattle.dfs_fence.specs.declared.fence.Fence.{Fence}
 use Rattle.dfs_fence.specs.Index.{IsAtMost}
 use Rattle.dfs_fence.specs.Ranges.{has_room, is_below, is_from, meets}
 use Rattle.dfs_fence.proofs.Orders.{at_most_below, below_at_most, less, not_both}
-use Rattle.dfs_merge.specs.Sources.{all_unread, sources}
 use Rattle.dfs_table.specs.declared.run.Run.{Run}
 use Rattle.dfs_table.specs.declared.table.Table.{Table}
 use Rattle.dfs_table.specs.RunRecords.{records_meeting}
@@ -155,10 +154,6 @@ parts_joined low high g (x ∷ xs) last =
     ap (λ l. part low high (g x) ++ l) (parts_joined low high g xs last)
     ∙ sym (filter-append (λ r. is_within low high r.key) (g x) (flat_map g xs ++ last))
     ∙ ap (part low high) (sym (append_assoc (g x) (flat_map g xs) last))
-
-pub none_unread : {S : Type 0} (rest : S → List Record) (unread : S → ℕ) (bound : S → Option Key) (ss : List S) → AllByRecursion (λ s. unread s ≡ 0) ss → all_unread (sources rest unread bound ss) ≡ 0
-none_unread rest unread bound [] none = refl
-none_unread rest unread bound (s ∷ ss) none = omega (arith, none.0, none_unread rest unread bound ss none.1)
 
 -- ---- which runs there are
 

@@ -2,9 +2,10 @@ use Rattle.std.proofs.Common.{◌∙◌, ap, ℕ, List}
 use Rattle.std.specs.Prelude.{Some, option_copied, flat_map}
 use Rattle.dfs_record.specs.declared.Record.{Record}
 use Rattle.dfs_record.specs.Delta.{delta, records_of}
+use Rattle.dfs_merge.specs.Laws.{none_unread}
 use Rattle.dfs_table.specs.declared.run.Run.{Run}
 use Rattle.dfs_view.specs.Layers.{records_on, runs_of}
-use Rattle.dfs_view.proofs.Parts.{none_unread, ok_to, parts_joined}
+use Rattle.dfs_view.proofs.Parts.{ok_to, parts_joined}
 use Rattle.dfs_view.proofs.sources.merged.Goals as goal
 
 pub returns-clause-rest : goal.returns-clause-rest

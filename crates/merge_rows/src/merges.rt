@@ -110,6 +110,8 @@ impl<C: Records> Records for Begun<'_, C> {
     ghost comes_begins = { λ s files l h. absurd h };
 
     ghost comes_loaded = { λ s files l h. absurd h };
+
+    ghost comes_one = { λ s files l m h. absurd h };
 }
 
 /// The parts between two keys of two sources of which a block is not loaded, merged.

@@ -4,7 +4,8 @@ use Rattle.std.specs.Prelude.{IsTrue, Result}
 use Rattle.dfs_host.specs.Disk.{Disk, Image, MayLeave, IsImage, IsImageBut}
 use Rattle.dfs_host.specs.Host.{HostState, Told, bytes_of, now, LeftBy, LeavesSince, LeavesOnly, ChangesOnly, ChangesNothing, HasDiskCause, Only, OnlyReads, SaysNothing}
 
-none_left : (past : List Disk) (image : Image) → LeftBy (drop (length past) past) image → ⊥
+-- behind all past moments stands none
+pub none_left : (past : List Disk) (image : Image) → LeftBy (drop (length past) past) image → ⊥
 none_left [] image left = left
 none_left (disk ∷ past) image left = none_left past image left
 

@@ -1,12 +1,12 @@
 -- Tables that a manifest tells of.
 use Rattle.std.proofs.Common.{◌≡◌, ◌≤◌, ◌+◌, ◌++◌, ◌∷◌, [], zero, suc, ℕ, List, length, take, drop, refl, ◌∙◌, sym, ap, subst, arith, slice_get, Some}
-use Rattle.std.specs.List.{AllByRecursion, Any}
-use Rattle.std.proofs.lemmas.Option.{get_or_from_slice_get, slice_get_within}
+use Rattle.std.specs.List.{AllByRecursion}
 use Rattle.std.proofs.lemmas.Grind.{flat_map-append}
-use Rattle.std.proofs.lemmas.List.{length-append, length-drop, length-map, length-take, map-append, take-append-drop}
+use Rattle.std.proofs.lemmas.List.{length-append, length-drop, length-map, length-take, map-append, take-append-drop, take_all}
 use Rattle.dfs_record.specs.Delta.{delta}
 use Rattle.dfs_fence.specs.declared.fence.Fence.{Fence}
 use Rattle.dfs_fence.specs.Index.{AreApart}
+use Rattle.dfs_fence.specs.Places.{Lies}
 use Rattle.dfs_fence.proofs.Indexes.{one_list}
 use Rattle.dfs_fence.proofs.Spelled.{some_is}
 use Rattle.dfs_manifest.specs.Manifest.{Extent, IsManifest}
@@ -14,14 +14,16 @@ use Rattle.dfs_manifest.proofs.Manifests.{short, one_list as one_manifest}
 use Rattle.dfs_registry.specs.declared.listed.Listed.{Listed}
 use Rattle.dfs_table.specs.declared.table.Table.{Table}
 use Rattle.dfs_table.specs.Counts.{count_of}
-use Rattle.dfs_table.specs.Opened.{IsNoTable, IsTableAt, Lies}
+use Rattle.dfs_table.specs.Opened.{IsNoTable, IsTableAt}
 use Rattle.dfs_table.specs.Identities.{IsWithin}
 use Rattle.dfs_table.specs.Stored.{part, records_by, run_records, table_records}
 use Rattle.dfs_table.specs.Tables.{AreTables, all_fences}
 use Rattle.dfs_table.proofs.Counting.{take_next}
+use Rattle.dfs_table.proofs.Finding.{each_at}
+use Rattle.dfs_table.proofs.Opening.{lies_of}
 use Rattle.dfs_table.proofs.Rising.{all_records}
 use Rattle.dfs_table.proofs.Stays.{all_append}
-use Rattle.dfs_change.specs.Whole.{AreTablesAt, HasChanges, IsDamaged, IsLogged, IsWhole, end_of, extents_of, joined, reads_of, table_fences}
+use Rattle.dfs_change.specs.Whole.{AreTablesAt, HasChanges, IndexesLie, IndexesMayLie, IsDamaged, IsLogged, IsWhole, end_of, extents_of, joined, reads_of, table_fences}
 use Rattle.dfs_change.proofs.Ended.{joined_fences}
 
 apart_front : (xs ys : List Fence) → AreApart (xs ++ ys) → AreApart xs
@@ -52,9 +54,17 @@ fences_next tables table =
       length-append table.fences [],
     )
 
--- an index may lie at one of the places
-pub lies_there : (ts : List Extent) (end i : ℕ) (t : Extent) → slice_get ts i ≡ Some t → Lies t.0 t.1 2220036 end → Any (λ (e : Extent). Lies e.0 e.1 2220036 end) ts
-lies_there ts end i t is lies = (i, t, slice_get_within ts i t is, get_or_from_slice_get ts i t t is, lies)
+-- one place more
+pub lie_next : (ts : List Extent) (end i : ℕ) (t : Extent) → slice_get ts i ≡ Some t → IndexesLie end (take i ts) → Lies t.0 t.1 2220036 end → IndexesLie end (take (i + 1) ts)
+lie_next ts end i t is so_far here =
+    subst (IndexesLie end) (sym (take_next ts i t is)) (all_append (λ (e : Extent). Lies e.0 e.1 2220036 end) (take i ts) (t ∷ []) so_far (here, tt))
+
+-- a place where no index may lie
+pub lies_not : (ts : List Extent) (end i : ℕ) (t : Extent) → slice_get ts i ≡ Some t → ¬ (Lies t.0 t.1 2220036 end) → IndexesLie end ts → ⊥
+lies_not ts end i t is out all = out (each_at (λ (e : Extent). Lies e.0 e.1 2220036 end) ts i t all is)
+
+pub lie_all : (ts : List Extent) (end i : ℕ) → length ts ≤ i → IndexesLie end (take i ts) → IndexesLie end ts
+lie_all ts end i past all = subst (IndexesLie end) (take_all i ts past) all
 
 module _ (file : List ℕ) (l : Listed) where
   one_table : (t : Extent) (fs gs : List Fence) → IsTableAt file l.job t.0 t.1 (end_of l) fs → IsTableAt file l.job t.0 t.1 (end_of l) gs → fs ≡ gs
@@ -109,6 +119,18 @@ module _ (file : List ℕ) (l : Listed) where
   not_apart ts fss k tables firsts out are apart =
       let same : take k fss ≡ table_fences tables = one_tables (take k ts) (take k fss) (table_fences tables) (tables_front ts fss k are) firsts in
       out (subst AreApart (ap joined same ∙ joined_fences tables) (joined_front fss k apart))
+
+  -- where tables are, an index may lie at each place
+  pub tables_lie : (ts : List Extent) (fss : List (List Fence)) → AreTablesAt file l ts fss → IndexesLie (end_of l) ts
+  tables_lie [] fss are = tt
+  tables_lie (t ∷ ts) [] are = absurd are
+  tables_lie (t ∷ ts) (fs ∷ fss) are = (lies_of file l.job (end_of l) t.0 t.1 fs are.0, tables_lie ts fss are.1)
+
+  pub may_lie : (ts : List Extent) (end : ℕ) → IsManifest (part file l.at l.len) ts → end ≡ end_of l → IndexesLie end ts → IndexesMayLie file l
+  may_lie ts end manifest same lie = record { tables = ts; manifest = manifest; lie = subst (λ n. IndexesLie n ts) same lie }
+
+  pub whole_lies : (ts : List Extent) (fss : List (List Fence)) → IsWhole file l ts fss → IndexesMayLie file l
+  whole_lies ts fss whole = may_lie ts (end_of l) whole.manifest refl (tables_lie ts fss whole.tables)
 
   -- ---- the whole log
 

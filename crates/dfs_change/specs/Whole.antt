@@ -1,8 +1,10 @@
 -- When the log of a publication is whole, and which change set it then has.
 use Rattle.std.specs.Prelude.{◌≡◌, ◌≤◌, ◌+◌, ℕ, List, [], ◌∷◌, length, take, map, flat_map}
+use Rattle.std.specs.List.{AllByRecursion}
 use Rattle.dfs_record.specs.Delta.{Delta, delta}
 use Rattle.dfs_fence.specs.declared.fence.Fence.{Fence}
 use Rattle.dfs_fence.specs.Index.{AreApart}
+use Rattle.dfs_fence.specs.Places.{Lies}
 use Rattle.dfs_log.specs.Logs.{log_header}
 use Rattle.dfs_manifest.specs.Manifest.{Extent, IsManifest}
 use Rattle.dfs_registry.specs.declared.listed.Listed.{Listed}
@@ -32,6 +34,16 @@ pub record IsLogged (file : List ℕ) (l : Listed) : Type 0 where
   pub header : take 12 file ≡ log_header l.job
   pub behind : 12 ≤ l.at
   pub inside : end_of l ≤ length file
+
+-- an index may lie at each of the places, and ends at a place or before it
+abbrev pub IndexesLie : ℕ → List Extent → Type 0
+IndexesLie end ts = AllByRecursion (λ t. Lies t.0 t.1 2220036 end) ts
+
+-- The manifest is one, and an index may lie at each of its places.
+pub record IndexesMayLie (file : List ℕ) (l : Listed) : Type 0 where
+  pub tables : List Extent
+  pub manifest : IsManifest (part file l.at l.len) tables
+  pub lie : IndexesLie (end_of l) tables
 
 -- The file has the log of the entry: a header with the job's number, and behind it the manifest and what the manifest tells of. The
 -- keys rise over all blocks, and the blocks have as many records as the entry counts.

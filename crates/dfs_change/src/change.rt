@@ -1,8 +1,8 @@
 //! Change sets that were published, in the tables of their logs.
 
-ghost use Rattle.std.specs.Prelude.{◌≡◌, ◌≤◌, ◌+◌, ◌&&◌, nat_le, ◌++◌, ◌∷◌, ◌↔◌, ℕ, [], List, length, take, IfOk, IfSome, IsErrOf, IsSome, OnOk};
+ghost use Rattle.std.specs.Prelude.{◌≡◌, ◌≤◌, ◌+◌, ◌&&◌, nat_le, ◌++◌, ◌∷◌, ◌↔◌, ◌⊎◌, ℕ, [], List, length, take, IfOk, IfSome, IsErrOf, IsSome, IsTrue, OnOk};
 ghost use Rattle.std.specs.Str.{bytes_eq};
-ghost use Rattle.std.specs.List.{AllByRecursion, Any};
+ghost use Rattle.std.specs.List.{AllByRecursion};
 ghost use Rattle.dfs_fence.specs.declared.fence.Fence.{Fence};
 ghost use Rattle.dfs_fence.specs.Index.{AreApart};
 ghost use Rattle.dfs_host.specs.Counts.{RoseBy};
@@ -11,14 +11,15 @@ ghost use Rattle.dfs_log.specs.Logs.{log_header};
 ghost use Rattle.dfs_manifest.specs.Manifest.{IsManifest};
 ghost use Rattle.dfs_record.specs.Delta.{delta};
 ghost use Rattle.dfs_table.specs.Identities.{IsWithin};
-ghost use Rattle.dfs_table.specs.Opened.{HasOpenCause, Lies};
+ghost use Rattle.dfs_table.specs.Opened.{HasOpenCause};
 ghost use Rattle.dfs_table.specs.Stored.{IsStored, IsTableOf, part, run_records};
 ghost use Rattle.dfs_table.specs.Tables.{AreTables, all_fences};
 ghost use Rattle.dfs_table.specs.Writer.{AreIn};
 ghost use Rattle.dfs_host.specs.declared.fault.Fault.{Fault as AnyFault};
 ghost use Rattle.dfs_table.specs.declared.open.OpenFault.{OpenFault as AnyOpenFault};
-ghost use Rattle.dfs_change.specs.Whole.{AreTablesAt, HasChanges, IsDamaged, IsLogged, IsWhole, end_of, extents_of, joined, reads_of, table_fences};
+ghost use Rattle.dfs_change.specs.Whole.{AreTablesAt, HasChanges, IndexesLie, IndexesMayLie, IsDamaged, IsLogged, IsWhole, end_of, extents_of, joined, reads_of, table_fences};
 
+use dfs_fence::lies;
 use dfs_host::{Failed, Fault, Host};
 use dfs_manifest::Manifest;
 use dfs_registry::Listed;
@@ -29,6 +30,9 @@ use std::rc::Rc;
 /// The most bytes of a manifest.
 const MOST_MANIFEST_BYTES: u32 = 1_572_868;
 
+// The most bytes of an index.
+const MOST_INDEX_BYTES: u32 = 2_220_036;
+
 /// A change set that was published: its entry in the registry, and the run in its job's log.
 #[derive(Debug, Drop)]
 pub struct Change {
@@ -37,8 +41,8 @@ pub struct Change {
 }
 
 impl Change {
-    /// The change set of an entry, of whose log the manifest, each index and each block are read once. `Malformed` where the log is
-    /// damaged.
+    /// The change set of an entry, of whose log the header, the manifest, each index and each block are read once. `Malformed` where
+    /// the log is damaged.
     pub fn open<H: Host>(
         alloc: Global,
         host: &mut H,
@@ -55,6 +59,9 @@ impl Change {
 
         // Memory is asked for only where the file is a log and has the manifest's place, and a manifest may be so long.
         ensures memory { Told (H.state host.old) (IsErrOf result (OpenFault.Fault Fault.NoMemory) → IsLogged (bytes_of (H.state host.old) listed.now.job) listed.now) }
+
+        // Once the manifest was read behind the header, only where each index that it tells of may lie before the manifest's end.
+        ensures memory_indexes { Told (H.state host.old) (IsErrOf result (OpenFault.Fault Fault.NoMemory) → RoseBy 1 (H.state host.old).reads (H.state host.new).reads ⊎ IndexesMayLie (bytes_of (H.state host.old) listed.now.job) listed.now) }
         ensures short { OnOk result (listed.now.len ≤ 1572868) }
         ensures short_memory { IsErrOf result (OpenFault.Fault Fault.NoMemory) → listed.now.len ≤ 1572868 }
         ensures never_full { IsErrOf result (OpenFault.Fault Fault.LogFull) → ⊥ }
@@ -100,6 +107,7 @@ fn open_run<H: Host>(alloc: Global, host: &mut H, listed: &Listed) -> Result<Run
     ensures malformed { Told (H.state host.old) (IsErrOf result OpenFault.Malformed → IsDamaged (bytes_of (H.state host.old) listed.now.job) listed.now) }
     ensures logged { Told (H.state host.old) (OnOk result (IsLogged (bytes_of (H.state host.old) listed.now.job) listed.now)) }
     ensures memory { Told (H.state host.old) (IsErrOf result (OpenFault.Fault Fault.NoMemory) → IsLogged (bytes_of (H.state host.old) listed.now.job) listed.now) }
+    ensures memory_indexes { Told (H.state host.old) (IsErrOf result (OpenFault.Fault Fault.NoMemory) → RoseBy 1 (H.state host.old).reads (H.state host.new).reads ⊎ IndexesMayLie (bytes_of (H.state host.old) listed.now.job) listed.now) }
     ensures short { OnOk result (listed.now.len ≤ 1572868) }
     ensures short_memory { IsErrOf result (OpenFault.Fault Fault.NoMemory) → listed.now.len ≤ 1572868 }
     ensures never_full { IsErrOf result (OpenFault.Fault Fault.LogFull) → ⊥ }
@@ -194,6 +202,9 @@ fn read_manifest<H: Host>(
     ensures only { OnlyReads (H.state host.old) (H.state host.new) }
     ensures cause { HasOpenCause (H.state host.old) (H.state host.new) result }
     ensures reads { OnOk result (RoseBy 1 (H.state host.old).reads (H.state host.new).reads) }
+
+    // Memory is asked for before the read alone.
+    ensures memory { IsErrOf result (OpenFault.Fault Fault.NoMemory) → (H.state host.new).reads ≡ (H.state host.old).reads }
 {
     let Ok(mut bytes) = Vec::from_elem(alloc, 0, listed.len as usize) else {
         return Err(OpenFault::Fault(Fault::NoMemory));
@@ -223,14 +234,17 @@ fn open_tables<H: Host>(
     ensures file { IfOk result (AreIn listed.now.job) }
     ensures malformed { Told (H.state host.old) (IsErrOf result OpenFault.Malformed → (fss : List (List Fence)) → AreTablesAt (bytes_of (H.state host.old) listed.now.job) listed.now manifest.now fss → ¬ (AreApart (joined fss))) }
 
-    // Memory is asked for only where an index of that length may lie at one of the manifest's places.
-    ensures memory { Told (H.state host.old) (IsErrOf result (OpenFault.Fault Fault.NoMemory) → Any (λ t. Lies t.0 t.1 2220036 end) manifest.now) }
+    // Memory is asked for only where an index of that length may lie at each of the manifest's places.
+    ensures memory { IsErrOf result (OpenFault.Fault Fault.NoMemory) → IndexesLie end manifest.now }
     ensures never_full { IsErrOf result (OpenFault.Fault Fault.LogFull) → ⊥ }
     ensures never_changed { (file at : ℕ) → IsErrOf result (OpenFault.Fault (Fault.Changed file at)) → ⊥ }
     ensures only { OnlyReads (H.state host.old) (H.state host.new) }
     ensures cause { HasOpenCause (H.state host.old) (H.state host.new) result }
     ensures reads { IfOk result (λ tables. RoseBy (length tables + length (all_fences tables)) (H.state host.old).reads (H.state host.new).reads) }
 {
+    if !indexes_lie(manifest, end) {
+        return Err(OpenFault::Malformed);
+    }
     let mut tables = Tables::new(alloc);
     for index in 0..manifest.count() {
         let (at, len) = manifest.table(index);
@@ -238,6 +252,19 @@ fn open_tables<H: Host>(
         add(&mut tables, table)?;
     }
     Ok(tables)
+}
+
+// Whether an index may lie at each of the manifest's places.
+fn indexes_lie(manifest: &Manifest<'_>, end: u64) -> bool
+    ensures { IsTrue result ↔ IndexesLie end manifest.now }
+{
+    for index in 0..manifest.count() {
+        let (at, len) = manifest.table(index);
+        if !lies(at, len, MOST_INDEX_BYTES, end) {
+            return false;
+        }
+    }
+    true
 }
 
 // Puts the table behind the others, where its keys are above theirs.

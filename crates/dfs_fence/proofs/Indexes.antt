@@ -1,6 +1,6 @@
 -- A count, and so many fences.
-use Rattle.std.proofs.Common.{◌≡◌, cond, ℕ, ◌*◌, ◌≤◌, true, List, [], ◌∷◌, ◌++◌, length, take, drop, refl, sym, ap, ◌∙◌, arith, length-append}
-use Rattle.std.specs.Prelude.{Option, Some, None, Result, Ok, Err, IfOk, IfSome, IsSomeAnd, ◌↔◌, nat_le}
+use Rattle.std.proofs.Common.{◌≡◌, cond, ℕ, ◌*◌, ◌≤◌, true, List, [], ◌∷◌, ◌++◌, length, take, drop, refl, sym, ap, subst, ◌∙◌, arith, length-append}
+use Rattle.std.specs.Prelude.{Option, Some, None, Result, Ok, Err, IfOk, IfSome, IsSome, IsSomeAnd, IsTrue, ◌↔◌, nat_le}
 use Rattle.std.specs.Int.{w16, w32, w64, to_be_bytes, from_be_bytes}
 use Rattle.std.specs.List.{AllByRecursion, flat_map}
 use Rattle.std.proofs.lemmas.Bool.{le-ltb, le-leb}
@@ -13,7 +13,7 @@ use Rattle.dfs_record.proofs.Lengths.{key_length}
 use Rattle.dfs_record.proofs.Readings.{both_true}
 use Rattle.dfs_fence.specs.declared.fence.Fence.{Fence}
 use Rattle.dfs_fence.specs.Index.{HasFields, IsFence, IsIndex, IsNoIndex, HasOneList, IsShort, fence_bytes}
-use Rattle.dfs_fence.specs.Reading.{fence_at}
+use Rattle.dfs_fence.specs.Reading.{BeginsAsIndex, fence_at}
 use Rattle.dfs_fence.specs.Spelled.{AreSpelled, NoneSpelled}
 use Rattle.dfs_fence.proofs.Fields.{fences}
 use Rattle.dfs_fence.proofs.Spelled.{some_is, behind_front}
@@ -99,3 +99,16 @@ pub count_fits : (count : ℕ) (bytes : List ℕ) (fs : List Fence) → Some cou
 count_fits count bytes fs read is =
     let same : length fs ≡ count = sym (some_is count (length fs) (read ∙ count_is bytes fs is)) in
     both_true (nat_le 1 count) (nat_le count 4096) (le-leb 1 count (omega (arith, same, is.some))) (le-leb count 4096 (omega (arith, same, is.fences.few)))
+
+-- the first fence of an index
+first_of : (fs : List Fence) → 1 ≤ length fs → AllByRecursion HasFields fs → (rest : List ℕ) → rest ≡ flat_map fence_bytes fs → IsSome (fence_at rest)
+first_of [] some fields rest text = absurd (omega (arith, some))
+first_of (f ∷ fs) some fields rest text =
+    let there : fence_at rest ≡ Some (f, flat_map fence_bytes fs) = ap fence_at text ∙ fences.again f (flat_map fence_bytes fs) fields.0 in
+    subst IsSome (sym there) refl
+
+pub begins_as : (bytes : List ℕ) (fs : List Fence) → IsIndex bytes fs → BeginsAsIndex bytes
+begins_as bytes fs is = record {
+  count = subst (λ o. IsSomeAnd o (λ n. IsTrue (is_between 1 4096 n))) (sym (count_is bytes fs is)) (count_fits (length fs) bytes fs (sym (count_is bytes fs is)) is);
+  fence = first_of fs is.some (all_fields fs is.fences.each) (drop 4 bytes) (inside (length fs) bytes fs (sym (count_is bytes fs is)) is).spelled;
+}

@@ -5,3 +5,4 @@ pub mod Apart
 pub mod Finding
 pub mod Indexes
 pub mod Parsing
+pub mod Placing

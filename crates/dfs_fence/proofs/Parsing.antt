@@ -1,6 +1,6 @@
 -- What a reader of fences makes of those that it has read and of the bytes that are left.
 use Rattle.std.proofs.Common.{◌≡◌, ℕ, ◌+◌, ◌<◌, ◌≤◌, true, false, List, [], ◌∷◌, ◌++◌, length, refl, sym, ap, subst, ◌∙◌, append_assoc, arith, length-append}
-use Rattle.std.specs.Prelude.{Some, None}
+use Rattle.std.specs.Prelude.{IsSome, OnErr, Result, Ok, Err, Some, None}
 use Rattle.std.specs.List.{AllByRecursion, flat_map}
 use Rattle.std.proofs.lemmas.List.{append-nil, nil_from_length}
 use Rattle.dfs_record.proofs.Readings.{IsBytes, first_true, second_true}
@@ -12,6 +12,10 @@ use Rattle.dfs_fence.proofs.Apart.{above_of, follows, fences_more}
 use Rattle.dfs_fence.proofs.Fields.{fences}
 use Rattle.dfs_fence.proofs.Indexes.{all_fields}
 use Rattle.dfs_fence.proofs.Spelled.{some_is, flat_more, behind_front}
+
+pub on_err : {T E P : Type 0} (r : Result T E) → P → OnErr r P
+on_err (Ok x) p = tt
+on_err (Err e) p = p
 
 -- so many fences of the bytes are read, and the rest is left
 pub record HasRead (bytes rest : List ℕ) (turn : ℕ) (fs : List Fence) : Type 0 where
@@ -57,6 +61,16 @@ module _ {bytes rest : List ℕ} {turn : ℕ} {fs : List Fence} where
             ∙ h.text;
         fits = t.1.rest_fits;
       })
+
+  -- a fence at the front of what is left, and so one at the front of all
+  pub begins : HasRead bytes rest turn fs → (f : Fence) (behind : List ℕ) → fence_at rest ≡ Some (f, behind) → IsSome (fence_at bytes)
+  begins h f behind e = by_case fs (all_fields fs h.fences.each) h.text
+    where
+      by_case : (gs : List Fence) → AllByRecursion HasFields gs → flat_map fence_bytes gs ++ rest ≡ bytes → IsSome (fence_at bytes)
+      by_case [] fields text = subst (λ (l : List ℕ). IsSome (fence_at l)) text (subst IsSome (sym e) refl)
+      by_case (g ∷ gs) fields text =
+          let there : fence_at (fence_bytes g ++ (flat_map fence_bytes gs ++ rest)) ≡ Some (g, flat_map fence_bytes gs ++ rest) = fences.again g (flat_map fence_bytes gs ++ rest) fields.0 in
+          subst (λ (l : List ℕ). IsSome (fence_at l)) (sym (append_assoc (fence_bytes g) (flat_map fence_bytes gs) rest) ∙ text) (subst IsSome (sym there) refl)
 
   stands : HasRead bytes rest turn fs → (count : ℕ) → turn ≤ count → (gs : List Fence) → AreSpelled count bytes gs → Stand rest turn fs count
   stands h count le gs are =

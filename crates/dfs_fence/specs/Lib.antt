@@ -1,5 +1,6 @@
 pub mod Cover
 pub mod Index
+pub mod Places
 pub mod Points
 pub mod Ranges
 pub mod Reading

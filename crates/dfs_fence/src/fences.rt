@@ -1,6 +1,6 @@
 //! Lists of fences.
 
-ghost use Rattle.std.specs.Prelude.{◌≡◌, ◌≤◌, ◌<◌, ◌++◌, ◌∷◌, ◌↔◌, ℕ, List, [], IfOk, IfSome, IsSomeAnd, None, OnErr, OnOk, Some, length, option_copied, slice_get};
+ghost use Rattle.std.specs.Prelude.{◌≡◌, ◌≤◌, ◌<◌, ◌++◌, ◌∷◌, ◌↔◌, ℕ, List, [], IfOk, IfSome, IsSome, IsSomeAnd, None, OnErr, OnOk, Some, length, option_copied, slice_get};
 ghost use Rattle.dfs_record.specs.Lend.{key_of};
 ghost use Rattle.dfs_record.specs.Name.{is_between};
 ghost use Rattle.dfs_fence.specs.declared.fence.Fence.{Fence};
@@ -8,7 +8,7 @@ ghost use Rattle.dfs_fence.specs.Cover.{CoversAt, NoneCovers};
 ghost use Rattle.dfs_fence.specs.Index.{AreFences, IsAboveLast, IsFence, IsIndex, IsNoIndex, last_end, most_fences};
 ghost use Rattle.dfs_fence.specs.Ranges.{AreThoseThatMeet, NoneMeets, has_room};
 ghost use Rattle.dfs_fence.specs.Points.{IsBeginsPoint, IsEndsPoint, IsFromPoint, IsToPoint};
-ghost use Rattle.dfs_fence.specs.Reading.{is_above, may_follow as may_follow_end};
+ghost use Rattle.dfs_fence.specs.Reading.{BeginsAsIndex, fence_at, is_above, may_follow as may_follow_end};
 ghost use Rattle.dfs_fence.specs.Spelled.{AreSpelled, NoneSpelled};
 
 use crate::Fence;
@@ -85,6 +85,9 @@ impl Fences {
         // They are the index of no other list.
         ensures only { IfOk result (λ o. (fs : List Fence) → IsIndex bytes.now fs → IsSomeAnd o (λ fences. fences ≡ fs)) }
         ensures none { IfOk result (λ o. (o ≡ None) ↔ IsNoIndex bytes.now) }
+
+        // Memory is asked for only where the bytes begin as an index does.
+        ensures memory { OnErr result (BeginsAsIndex bytes.now) }
     {
         let Some(count) = read_u32(bytes) else {
             return Ok(None);
@@ -211,6 +214,9 @@ fn parse(alloc: Global, count: u32, bytes: &[u8]) -> Result<Option<Fences>, NoMe
     requires { count ≤ 4096 }
     ensures found { IfOk result (λ o. IfSome o (λ fences. AreSpelled count bytes.now fences)) }
     ensures none { IfOk result (λ o. (o ≡ None) ↔ NoneSpelled count bytes.now) }
+
+    // Memory is asked for only where a fence stands at the front.
+    ensures memory { OnErr result (IsSome (fence_at bytes.now)) }
 {
     let mut fences = Fences::new(alloc);
     let mut rest = bytes;

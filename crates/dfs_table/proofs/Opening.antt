@@ -14,13 +14,14 @@ use Rattle.dfs_block.specs.Front.{records_front}
 use Rattle.dfs_block.proofs.Blocks.{front_all, one_list as one_block}
 use Rattle.dfs_fence.specs.declared.fence.Fence.{Fence}
 use Rattle.dfs_fence.specs.Index.{most_bytes}
-use Rattle.dfs_fence.proofs.Indexes.{one_list, short}
+use Rattle.dfs_fence.specs.Places.{BlockLies, Lies}
+use Rattle.dfs_fence.proofs.Indexes.{begins_as, one_list, short}
 use Rattle.dfs_fence.proofs.Spelled.{all_more, flat_more}
 use Rattle.dfs_table.specs.declared.open.OpenFault.{OpenFault}
 use Rattle.dfs_table.specs.declared.table.Table.{Table}
 use Rattle.dfs_table.specs.declared.open.OpenFault.TheVariants.{Fault}
 use Rattle.dfs_table.specs.Identities.{IsWithin, is_within}
-use Rattle.dfs_table.specs.Opened.{Agrees, EndsBy, HasOpenCause, IsBlockIn, IsNoTable, IsTableAt, Lies}
+use Rattle.dfs_table.specs.Opened.{Agrees, BlocksMayLie, EndsBy, HasOpenCause, IsBlockIn, IsNoTable, IsTableAt}
 use Rattle.dfs_table.specs.Stored.{IsBlockOf, IsIndexAt, IsTableOf, block_at, blocks_by, part, records_at, records_by}
 use Rattle.dfs_table.proofs.Counting.{take_next}
 use Rattle.dfs_table.proofs.Stays.{all_append, all_behind, all_front}
@@ -130,7 +131,21 @@ module _ (file : List ℕ) (job end : ℕ) where
   all_within [] all = tt
   all_within (f ∷ fs) all = all_append (IsWithin job) (records_at file f) (records_by file fs) all.0.within (all_within fs all.1)
 
+  -- each block of a table may lie where its fence says
+  pub each_lies : (fs : List Fence) → AllByRecursion (IsBlockOf file) fs → AllByRecursion (EndsBy end) fs → AllByRecursion (BlockLies end) fs
+  each_lies [] each ends = tt
+  each_lies (f ∷ fs) each ends =
+      let short : f.len ≤ 4096 = omega (arith, each.0.block.short, part_length file f.at f.len, each.0.inside) in
+      (record { behind = each.0.behind; short = short; ends = ends.0 }, each_lies fs each.1 ends.1)
+
   module _ (at len : ℕ) where
+    -- the blocks of the index's one list
+    pub may_lie : (fs : List Fence) → IsIndexAt file at len fs → AllByRecursion (BlockLies end) fs → BlocksMayLie file at len end
+    may_lie fs index all = record {
+      begins = begins_as (part file at len) fs index.index;
+      blocks = λ gs is. subst (AllByRecursion (BlockLies end)) (one_list (part file at len) fs gs index.index is.index) all;
+    }
+
     -- where no index may lie, there is no table
     pub lies_of : (fs : List Fence) → IsTableAt file job at len end fs → Lies at len most_bytes end
     lies_of fs is = record {

@@ -7,10 +7,12 @@ use Rattle.dfs_host.specs.declared.fault.Fault.TheVariants.{Disk}
 use Rattle.dfs_record.specs.declared.Record.{Record}
 use Rattle.dfs_block.specs.Block.{IsBlock, first_key, last_key}
 use Rattle.dfs_fence.specs.declared.fence.Fence.{Fence}
+use Rattle.dfs_fence.specs.Places.{BlockLies}
+use Rattle.dfs_fence.specs.Reading.{BeginsAsIndex}
 use Rattle.dfs_table.specs.declared.open.OpenFault.{OpenFault}
 use Rattle.dfs_table.specs.declared.open.OpenFault.TheVariants.{Fault}
 use Rattle.dfs_table.specs.Identities.{IsWithin}
-use Rattle.dfs_table.specs.Stored.{IsBlockOf, IsIndexAt, records_at, records_by}
+use Rattle.dfs_table.specs.Stored.{IsBlockOf, IsIndexAt, part, records_at, records_by}
 
 -- the block ends at this place or before it
 abbrev pub EndsBy : ℕ → Fence → Type 0
@@ -40,11 +42,11 @@ pub record Agrees (job : ℕ) (f : Fence) (bytes : List ℕ) : Type 0 where
   pub last : last_key records ≡ Some f.last
   pub within : AllByRecursion (IsWithin job) records
 
--- So many bytes, at most these, lie behind a log's header and end at a place or before it.
-pub record Lies (at len most end : ℕ) : Type 0 where
-  pub behind : 12 ≤ at
-  pub short : len ≤ most
-  pub ends : at + len ≤ end
+-- The bytes begin as an index does, and where they are one, each of its blocks may lie where its fence says, and ends at a place or
+-- before it.
+pub record BlocksMayLie (file : List ℕ) (at len end : ℕ) : Type 0 where
+  pub begins : BeginsAsIndex (part file at len)
+  pub blocks : (fs : List Fence) → IsIndexAt file at len fs → AllByRecursion (BlockLies end) fs
 
 abbrev pub IsNoTable : List ℕ → ℕ → ℕ → ℕ → ℕ → Type 0
 IsNoTable file job at len end = (fs : List Fence) → ¬ (IsTableAt file job at len end fs)

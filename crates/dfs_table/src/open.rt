@@ -1,20 +1,21 @@
 //! Tables that are read back from a log.
 
-ghost use Rattle.std.specs.Prelude.{◌≡◌, ◌≤◌, ◌<◌, ◌+◌, ◌++◌, ◌↔◌, ℕ, List, length, Some, IfOk, OnOk, IsErrOf, IsTrue};
-ghost use Rattle.std.specs.List.{AllByRecursion};
+ghost use Rattle.std.specs.Prelude.{◌≡◌, ◌≤◌, ◌<◌, ◌+◌, ◌++◌, ◌↔◌, ◌⊎◌, ℕ, List, length, Some, IfOk, OnOk, IsErrOf, IsTrue};
+ghost use Rattle.std.specs.List.{AllByRecursion, Any};
 ghost use Rattle.dfs_block.specs.Block.{first_key, last_key};
 ghost use Rattle.dfs_fence.specs.declared.fence.Fence.{Fence as AnyFence};
+ghost use Rattle.dfs_fence.specs.Places.{BlockLies, Lies};
 ghost use Rattle.dfs_record.specs.Lend.{key_of};
 ghost use Rattle.dfs_host.specs.Counts.{RoseBy};
 ghost use Rattle.dfs_host.specs.Host.{Told, bytes_of, OnlyReads};
 ghost use Rattle.dfs_host.specs.declared.fault.Fault.{Fault as AnyFault};
-ghost use Rattle.dfs_table.specs.Opened.{Agrees, HasOpenCause, IsBlockIn, IsNoTable, IsTableAt, Lies};
+ghost use Rattle.dfs_table.specs.Opened.{Agrees, BlocksMayLie, HasOpenCause, IsBlockIn, IsNoTable, IsTableAt};
 ghost use Rattle.dfs_table.specs.Stored.{IsIndexAt, IsTableOf, block_at, blocks_by, part};
 
 use crate::identities::are_within;
 use crate::{BlockBytes, Table};
 use dfs_block::Block;
-use dfs_fence::{Fence, Fences};
+use dfs_fence::{Fence, Fences, blocks_lie, lies};
 use dfs_host::{Fault, Host};
 use dfs_record::{Key, KeyRef, NoMemory};
 use std::alloc::Global;
@@ -43,9 +44,6 @@ impl From<NoMemory> for OpenFault {
     }
 }
 
-// The length of a log's header.
-const HEADER_LEN: u64 = 12;
-
 // The most bytes of an index.
 const MOST_INDEX_BYTES: u32 = 2_220_036;
 
@@ -71,6 +69,9 @@ impl Table {
 
         // Memory is asked for only where an index of that length may lie there.
         ensures memory { IsErrOf result (OpenFault.Fault Fault.NoMemory) → Lies at len 2220036 end }
+
+        // Once it was read, only where its bytes begin as an index does, and each of its blocks may lie where its fence says.
+        ensures memory_blocks { Told (H.state host.old) (IsErrOf result (OpenFault.Fault Fault.NoMemory) → ((H.state host.new).reads ≡ (H.state host.old).reads) ⊎ BlocksMayLie (bytes_of (H.state host.old) file) at len end) }
         ensures never_full { IsErrOf result (OpenFault.Fault Fault.LogFull) → ⊥ }
         ensures never_changed { (file at : ℕ) → IsErrOf result (OpenFault.Fault (Fault.Changed file at)) → ⊥ }
         ensures only { OnlyReads (H.state host.old) (H.state host.new) }
@@ -80,17 +81,10 @@ impl Table {
         if !lies(at, len, MOST_INDEX_BYTES, end) {
             return Err(OpenFault::Malformed);
         }
-        let fences = read_index(alloc, host, file, at, len)?;
+        let fences = read_index(alloc, host, file, at, len, end)?;
         let blocks = read_blocks(alloc, host, file, end, &fences)?;
         Ok(Table::new(alloc, file, at, len, fences, blocks)?)
     }
-}
-
-// Whether so many bytes, at most these, lie behind a log's header and end by a place.
-fn lies(at: u64, len: u32, most: u32, end: u64) -> bool
-    ensures { IsTrue result ↔ Lies at len most end }
-{
-    HEADER_LEN <= at && len <= most && at <= end && u64::from(len) <= end - at
 }
 
 // Fills the slice from a place of a file, which is malformed where it ends before.
@@ -110,18 +104,21 @@ fn read_part<H: Host>(host: &mut H, file: u32, at: u64, out: &mut [u8]) -> Resul
     }
 }
 
-// The fences whose index lies there.
+// The fences whose index lies there. It is malformed too where not each of their blocks may lie where they say.
 fn read_index<H: Host>(
     alloc: Global,
     host: &mut H,
     file: u32,
     at: u64,
     len: u32,
+    end: u64,
 ) -> Result<Fences, OpenFault>
     requires behind { 12 ≤ at }
     ensures some { IfOk result (λ fences. 1 ≤ length fences) }
     ensures index { Told (H.state host.old) (IfOk result (IsIndexAt (bytes_of (H.state host.old) file) at len)) }
-    ensures malformed { Told (H.state host.old) (IsErrOf result OpenFault.Malformed → (fences : List AnyFence) → ¬ (IsIndexAt (bytes_of (H.state host.old) file) at len fences)) }
+    ensures lie { IfOk result (AllByRecursion (BlockLies end)) }
+    ensures malformed { Told (H.state host.old) (IsErrOf result OpenFault.Malformed → (fences : List AnyFence) → IsIndexAt (bytes_of (H.state host.old) file) at len fences → ¬ (AllByRecursion (BlockLies end) fences)) }
+    ensures memory { Told (H.state host.old) (IsErrOf result (OpenFault.Fault Fault.NoMemory) → ((H.state host.new).reads ≡ (H.state host.old).reads) ⊎ BlocksMayLie (bytes_of (H.state host.old) file) at len end) }
     ensures never_full { IsErrOf result (OpenFault.Fault Fault.LogFull) → ⊥ }
     ensures never_changed { (file at : ℕ) → IsErrOf result (OpenFault.Fault (Fault.Changed file at)) → ⊥ }
     ensures only { OnlyReads (H.state host.old) (H.state host.new) }
@@ -132,6 +129,9 @@ fn read_index<H: Host>(
         return Err(OpenFault::Fault(Fault::NoMemory));
     };
     read_part(host, file, at, &mut bytes)?;
+    if !blocks_lie(&bytes, end) {
+        return Err(OpenFault::Malformed);
+    }
     match Fences::read(alloc, &bytes)? {
         Some(fences) => Ok(fences),
         None => Err(OpenFault::Malformed),
@@ -149,6 +149,7 @@ fn read_blocks<H: Host>(
     ensures blocks { Told (H.state host.old) (IfOk result (λ blocks. blocks ≡ blocks_by (bytes_of (H.state host.old) file) fences.now)) }
     ensures each { Told (H.state host.old) (OnOk result (AllByRecursion (IsBlockIn (bytes_of (H.state host.old) file) file end) fences.now)) }
     ensures malformed { Told (H.state host.old) (IsErrOf result OpenFault.Malformed → ¬ (AllByRecursion (IsBlockIn (bytes_of (H.state host.old) file) file end) fences.now)) }
+    ensures memory { IsErrOf result (OpenFault.Fault Fault.NoMemory) → Any (BlockLies end) fences.now }
     ensures never_full { IsErrOf result (OpenFault.Fault Fault.LogFull) → ⊥ }
     ensures never_changed { (file at : ℕ) → IsErrOf result (OpenFault.Fault (Fault.Changed file at)) → ⊥ }
     ensures only { OnlyReads (H.state host.old) (H.state host.new) }
@@ -176,6 +177,7 @@ fn read_block<H: Host>(
     ensures bytes { Told (H.state host.old) (OnOk result (blocks.new ≡ blocks.old ++ block_at (bytes_of (H.state host.old) file) fence.now)) }
     ensures block { Told (H.state host.old) (OnOk result (IsBlockIn (bytes_of (H.state host.old) file) file end fence.now)) }
     ensures malformed { Told (H.state host.old) (IsErrOf result OpenFault.Malformed → ¬ (IsBlockIn (bytes_of (H.state host.old) file) file end fence.now)) }
+    ensures memory { IsErrOf result (OpenFault.Fault Fault.NoMemory) → BlockLies end fence.now }
     ensures never_full { IsErrOf result (OpenFault.Fault Fault.LogFull) → ⊥ }
     ensures never_changed { (file at : ℕ) → IsErrOf result (OpenFault.Fault (Fault.Changed file at)) → ⊥ }
     ensures only { OnlyReads (H.state host.old) (H.state host.new) }

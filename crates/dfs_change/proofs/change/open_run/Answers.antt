@@ -1,13 +1,16 @@
-use Rattle.std.proofs.Common.{◌∙◌, sym, ap, subst, refl, arith}
-use Rattle.std.specs.Prelude.{IfSome, IsSome}
+use Rattle.std.proofs.Common.{◌≡◌, ◌∙◌, inr, sym, ap, subst, refl, arith}
+use Rattle.std.specs.Prelude.{IfSome, IsErrOf, IsSome}
+use Rattle.std.proofs.lemmas.Result.{err_from_is_err_and}
 use Rattle.dfs_host.specs.Counts.{RoseBy}
 use Rattle.dfs_host.specs.Host.{bytes_of}
+use Rattle.dfs_host.specs.declared.fault.Fault.TheVariants.{NoMemory}
+use Rattle.dfs_table.specs.declared.open.OpenFault.TheVariants.{Fault}
 use Rattle.dfs_host.proofs.Causes.{rose_by_sum}
 use Rattle.dfs_manifest.specs.Manifest.{IsManifest}
 use Rattle.dfs_table.specs.Stored.{part}
 use Rattle.dfs_host.proofs.Moments.{reads_go_on, same_bytes}
-use Rattle.dfs_change.specs.Whole.{AreTablesAt, IsWhole, extents_of, table_fences}
-use Rattle.dfs_change.proofs.Opened.{changes_by, other_count, reads_in, run_within, too_long, whole_by}
+use Rattle.dfs_change.specs.Whole.{AreTablesAt, IsWhole, end_of, extents_of, table_fences}
+use Rattle.dfs_change.proofs.Opened.{changes_by, may_lie, other_count, reads_in, run_within, too_long, whole_by}
 use Rattle.dfs_change.proofs.change.open_run.Goals as goal
 
 pub returns-then-count-listed-clause-whole : goal.returns-then-count-listed-clause-whole
@@ -60,3 +63,16 @@ returns-then-count-listed-clause-reads g c =
     let begun : RoseBy 1 (g.H.Host.state c.args.host.now).reads (g.H.Host.state c.find_end.new.host).reads = subst (λ o. IfSome o (λ _. RoseBy 1 (g.H.Host.state c.args.host.now).reads (g.H.Host.state c.find_end.new.host).reads)) c.in-Some.is c.in_ok-end.ensures.reads in
     subst (λ n. RoseBy n (g.H.Host.state c.args.host.now).reads (g.H.Host.state c.open_tables.new.host).reads) (reads_in ts)
     (rose_by_sum (rose_by_sum begun c.in_ok-bytes.ensures.reads) c.in_ok-tables.ensures.reads)
+
+pub returns-in_err-tables-clause-memory_indexes : goal.returns-in_err-tables-clause-memory_indexes
+returns-in_err-tables-clause-memory_indexes g c tells is =
+    let l = c.args.listed.now in
+    let file = bytes_of (g.H.Host.state c.args.host.now) l.job in
+    let m = c.in-Some-read.manifest in
+    let before = c.find_end.ensures.only in
+    let found : IsManifest (part file l.at l.len) m =
+    subst (λ b. IsManifest b m) (c.deref.ensures.value ∙ c.in_ok-bytes.ensures.bytes (before.tells ∙ tells) ∙ ap (λ f. part f l.at l.len) (same_bytes before tells l.job)) c.in-Some-read.ensures.found in
+    let same : c.in-Some.end ≡ end_of l = subst (λ o. IfSome o (λ end. end ≡ end_of l)) c.in-Some.is c.in_ok-end.ensures.end in
+    let p = err_from_is_err_and c.from_residual-in_err-tables.result c.from_residual-in_err-tables.ensures.1 in
+    let none : IsErrOf c.open_tables.result (Fault NoMemory) = cc (is, c.in_err-tables.was, p.1, p.2) in
+    inr (may_lie file l m c.in-Some.end found same (c.open_tables.ensures.memory none))

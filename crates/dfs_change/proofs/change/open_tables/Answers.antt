@@ -7,17 +7,16 @@ use Rattle.dfs_host.specs.Counts.{RoseBy}
 use Rattle.dfs_host.specs.Host.{bytes_of}
 use Rattle.dfs_host.proofs.Causes.{rose_by_sum}
 use Rattle.dfs_table.specs.declared.table.Table.{Table}
-use Rattle.dfs_host.specs.declared.fault.Fault.TheVariants.{NoMemory}
-use Rattle.dfs_table.specs.declared.open.OpenFault.TheVariants.{Fault, Malformed}
+use Rattle.dfs_table.specs.declared.open.OpenFault.TheVariants.{Malformed}
 use Rattle.dfs_table.specs.Opened.{IsNoTable, IsTableAt}
 use Rattle.dfs_table.specs.Stored.{IsTableOf}
 use Rattle.dfs_table.specs.Tables.{all_fences}
 use Rattle.dfs_table.specs.Writer.{AreIn}
 use Rattle.dfs_host.proofs.Moments.{reads_go_on, same_bytes}
-use Rattle.dfs_table.proofs.Opening.{lies_of, no_fault_by}
+use Rattle.dfs_table.proofs.Opening.{no_fault_by}
 use Rattle.dfs_table.proofs.Stays.{all_append}
-use Rattle.dfs_change.specs.Whole.{AreTablesAt, end_of, extents_of, table_fences}
-use Rattle.dfs_change.proofs.Opened.{fences_next, lies_there, none_there, not_apart, places_next, tables_next}
+use Rattle.dfs_change.specs.Whole.{AreTablesAt, IndexesLie, end_of, extents_of, table_fences}
+use Rattle.dfs_change.proofs.Opened.{fences_next, none_there, not_apart, places_next, tables_lie, tables_next}
 use Rattle.dfs_change.proofs.change.open_tables.Goals as goal
 
 pub returns-in_err-table-clause-malformed : goal.returns-in_err-table-clause-malformed
@@ -47,17 +46,12 @@ returns-in_err-add-clause-malformed g c tells is fss are apart =
     not_apart file l c.args.manifest.now fss (c.loop-index.index + 1) (c.loop-index.tables ++ table ∷ [])
     (tables_next file l c.args.manifest.now c.loop-index.index t c.loop-index.tables table c.table-at.ensures (so_far.opened tells) here) (c.add.ensures.malformed malformed) are apart
 
-pub returns-in_err-table-clause-memory : goal.returns-in_err-table-clause-memory
-returns-in_err-table-clause-memory g c tells is =
-    let p = err_from_is_err_and c.from_residual.result c.from_residual.ensures.1 in
-    let none : IsErrOf c.open.result (Fault NoMemory) = cc (is, c.in_err-table.was, p.1, p.2) in
-    lies_there c.args.manifest.now c.args.end c.loop-index.index c.table-at.result c.table-at.ensures (c.open.ensures.memory none)
-
-pub returns-in_err-add-clause-memory : goal.returns-in_err-add-clause-memory
-returns-in_err-add-clause-memory g c tells is =
-    let t = c.table-at.result in
-    let there = c.in_ok-table.ensures.table (c.loop-index.invariant.only.tells ∙ tells) in
-    lies_there c.args.manifest.now c.args.end c.loop-index.index t c.table-at.ensures (lies_of _ c.args.listed.now.job c.args.end t.0 t.1 c.in_ok-table.table.fences there)
+pub returns-then-not-indexes_lie-clause-malformed : goal.returns-then-not-indexes_lie-clause-malformed
+returns-then-not-indexes_lie-clause-malformed g c tells is fss are =
+    let l = c.args.listed.now in
+    let lie = tables_lie (bytes_of (g.H.Host.state c.args.host.now) l.job) l c.args.manifest.now fss are in
+    let yes = c.indexes_lie.ensures.1 (subst (λ n. IndexesLie n c.args.manifest.now) (sym c.requires.end) lie) in
+    absurd (cc (yes, c.if-not-indexes_lie.true))
 
 pub loop-index-preserved : goal.loop-index-preserved
 loop-index-preserved g c =

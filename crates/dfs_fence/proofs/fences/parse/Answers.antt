@@ -2,7 +2,7 @@ use Rattle.std.proofs.Common.{◌≡◌, ◌<◌, length, ap, sym, subst, ◌∙
 use Rattle.dfs_fence.specs.declared.fence.Fence.{Fence}
 use Rattle.dfs_fence.specs.Index.{IsFence}
 use Rattle.dfs_fence.specs.Reading.{fence_of}
-use Rattle.dfs_fence.proofs.Parsing.{none_read, next_fields, next_fence, read_on, stuck, falls, left_over, read_all}
+use Rattle.dfs_fence.proofs.Parsing.{begins, none_read, next_fields, next_fence, read_on, stuck, falls, left_over, on_err, read_all}
 use Rattle.dfs_fence.proofs.fences.parse.Goals as goal
 
 pub loop-turn-init : goal.loop-turn-init
@@ -44,3 +44,9 @@ pub returns-else-is_empty-clause-none : goal.returns-else-is_empty-clause-none
 returns-else-is_empty-clause-none c =
     let some : 0 < length c.loop-turn.rest.now = grind arith in
     ((λ _. left_over c.loop-turn.invariant c.args.count (omega (arith, c.loop-turn-test.false, c.loop-turn.auto._turn-end)) some), (λ _. refl))
+
+pub returns-in_err-to_fence-clause-memory : goal.returns-in_err-to_fence-clause-memory
+returns-in_err-to_fence-clause-memory c = on_err c.from_residual.result (begins c.loop-turn.invariant (fence_of c.in-Some.fence) c.in-Some.behind.now c.in-Some.ensures)
+
+pub returns-in_err-push-clause-memory : goal.returns-in_err-push-clause-memory
+returns-in_err-push-clause-memory c = on_err c.from_residual-in_err-push.result (begins c.loop-turn.invariant (fence_of c.in-Some.fence) c.in-Some.behind.now c.in-Some.ensures)

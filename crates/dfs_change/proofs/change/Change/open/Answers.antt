@@ -1,4 +1,4 @@
-use Rattle.std.proofs.Common.{sym, subst}
+use Rattle.std.proofs.Common.{inr, sym, subst}
 use Rattle.std.specs.List.{AllByRecursion}
 use Rattle.std.proofs.lemmas.Result.{IfOk-weaker}
 use Rattle.dfs_host.specs.Counts.{RoseBy}
@@ -9,6 +9,7 @@ use Rattle.dfs_table.specs.declared.run.Run.{Run}
 use Rattle.dfs_table.specs.Identities.{IsWithin}
 use Rattle.dfs_table.specs.Stored.{IsStored, run_records}
 use Rattle.dfs_change.specs.Whole.{IsWhole, extents_of, reads_of, table_fences}
+use Rattle.dfs_change.proofs.Opened.{whole_lies}
 use Rattle.dfs_change.proofs.change.Change.open.Goals as goal
 
 pub returns-clause-stored : goal.returns-clause-stored
@@ -39,3 +40,15 @@ returns-clause-reads g c =
     let new = (g.H.Host.state c.open_run.new.host).reads in
     let reads = c.in_ok-run.ensures.reads in
     IfOk-weaker c.share.result _ _ (λ change is. subst (λ (r : Run). RoseBy (reads_of (table_fences r.tables)) old new) (sym is.1) reads) c.share.ensures.change
+
+pub returns-in_err-copy-clause-memory_indexes : goal.returns-in_err-copy-clause-memory_indexes
+returns-in_err-copy-clause-memory_indexes g c tells _ =
+    let l = c.args.listed.now in
+    let ts = c.in_ok-run.run'.tables in
+    inr (whole_lies (bytes_of (g.H.Host.state c.args.host.now) l.job) l (extents_of ts) (table_fences ts) (c.in_ok-run.ensures.whole tells))
+
+pub returns-clause-memory_indexes : goal.returns-clause-memory_indexes
+returns-clause-memory_indexes g c tells _ =
+    let l = c.args.listed.now in
+    let ts = c.in_ok-run.run'.tables in
+    inr (whole_lies (bytes_of (g.H.Host.state c.args.host.now) l.job) l (extents_of ts) (table_fences ts) (c.in_ok-run.ensures.whole tells))

@@ -1,9 +1,12 @@
 use Rattle.std.proofs.Common.{◌≤◌, sym, subst, ◌∙◌, refl, arith, List, ℕ}
-use Rattle.std.specs.Prelude.{nat_le}
+use Rattle.std.specs.Prelude.{IsSome, IsSomeAnd, IsTrue, nat_le}
+use Rattle.std.proofs.lemmas.Result.{on_err_weaker}
 use Rattle.std.proofs.lemmas.Bool.{leb-true}
 use Rattle.dfs_fence.specs.declared.fence.Fence.{Fence}
 use Rattle.dfs_fence.specs.Index.{IsIndex, IsNoIndex}
+use Rattle.dfs_fence.specs.Reading.{fence_at}
 use Rattle.dfs_fence.specs.Spelled.{AreSpelled}
+use Rattle.dfs_record.specs.Name.{is_between}
 use Rattle.dfs_record.proofs.Readings.{first_true}
 use Rattle.dfs_fence.proofs.Indexes.{inside, made, long, found_of, only_of, none_of, count_fits}
 use Rattle.dfs_fence.proofs.fences.Fences.read.Goals as goal
@@ -43,3 +46,12 @@ returns-clause-only c = only_of c.in-Some.count c.args.bytes.now c.split_at.resu
 
 pub returns-clause-none : goal.returns-clause-none
 returns-clause-none c = none_of c.in-Some.count c.args.bytes.now c.split_at.result.1.now c.parse.result c.parse.ensures.none (from c) (to c)
+
+pub returns-clause-memory : goal.returns-clause-memory
+returns-clause-memory c =
+    on_err_weaker c.parse.result
+    (λ there. record {
+      count = subst (λ o. IsSomeAnd o (λ n. IsTrue (is_between 1 4096 n))) c.in-Some.ensures.exact (sym c.is_count.ensures ∙ c.if-not-is_count.false);
+      fence = subst (λ (l : List ℕ). IsSome (fence_at l)) c.split_at.ensures.back there;
+    })
+    c.parse.ensures.memory

@@ -1,4 +1,4 @@
-use Rattle.std.proofs.Common.{◌≡◌, ◌∙◌, List, ℕ, ap, sym, subst}
+use Rattle.std.proofs.Common.{◌≡◌, ◌∙◌, List, ℕ, ap, inr, sym, subst}
 use Rattle.std.specs.Prelude.{Err}
 use Rattle.std.specs.List.{AllByRecursion}
 use Rattle.std.proofs.lemmas.Result.{err_from_is_err_and}
@@ -7,7 +7,7 @@ use Rattle.dfs_table.specs.declared.open.OpenFault.TheVariants.{Malformed}
 use Rattle.dfs_table.specs.Opened.{IsBlockIn, IsTableAt}
 use Rattle.dfs_table.specs.Stored.{blocks_by}
 use Rattle.dfs_host.proofs.Moments.{same_bytes}
-use Rattle.dfs_table.proofs.Opening.{lies_of, no_table, stored_by, table_by}
+use Rattle.dfs_table.proofs.Opening.{each_lies, lies_of, may_lie, no_table, stored_by, table_by}
 use Rattle.dfs_table.proofs.table.Table.open.Goals as goal
 
 pub returns-then-not-lies-clause-malformed : goal.returns-then-not-lies-clause-malformed
@@ -15,6 +15,23 @@ returns-then-not-lies-clause-malformed g c = λ tells is fs at.
     let bytes = bytes_of (g.H.Host.state c.args.host.now) c.args.file in
     let yes = c.lies.ensures.1 (lies_of bytes c.args.file c.args.end c.args.at c.args.len fs at) in
     absurd (cc (yes, c.if-not-lies.true))
+
+pub returns-in_err-fences-clause-malformed : goal.returns-in_err-fences-clause-malformed
+returns-in_err-fences-clause-malformed g c = λ tells is fs at.
+    let bytes = bytes_of (g.H.Host.state c.args.host.now) c.args.file in
+    let p = err_from_is_err_and c.from_residual.result c.from_residual.ensures.1 in
+    let same : c.in_err-fences.field-0.0 ≡ Malformed = cc (p.1, p.2, is) in
+    c.in_err-fences.ensures.malformed tells (ap Err same) fs at.index (each_lies bytes c.args.file c.args.end fs at.each at.each_ends)
+
+pub returns-in_err-blocks-clause-memory_blocks : goal.returns-in_err-blocks-clause-memory_blocks
+returns-in_err-blocks-clause-memory_blocks g c = λ tells _.
+    let bytes = bytes_of (g.H.Host.state c.args.host.now) c.args.file in
+    inr (may_lie bytes c.args.file c.args.end c.args.at c.args.len c.in_ok-fences.fences (c.in_ok-fences.ensures.index tells) c.in_ok-fences.ensures.lie)
+
+pub returns-in_err-new-clause-memory_blocks : goal.returns-in_err-new-clause-memory_blocks
+returns-in_err-new-clause-memory_blocks g c = λ tells _.
+    let bytes = bytes_of (g.H.Host.state c.args.host.now) c.args.file in
+    inr (may_lie bytes c.args.file c.args.end c.args.at c.args.len c.in_ok-fences.fences (c.in_ok-fences.ensures.index tells) c.in_ok-fences.ensures.lie)
 
 pub returns-in_err-blocks-clause-malformed : goal.returns-in_err-blocks-clause-malformed
 returns-in_err-blocks-clause-malformed g c = λ tells is.

@@ -1,5 +1,5 @@
 //! The files that are open, a bounded number of them.
-ghost use Rattle.std.specs.Prelude.{◌≡◌, ◌<◌, ◌≤◌, [], ◌∷◌, ◌++◌, vec_capacity, vec_len};
+ghost use Rattle.std.specs.Prelude.{◌≡◌, ◌≢◌, ◌<◌, ◌≤◌, ◌-◌, [], ◌∷◌, ◌++◌, drop, vec_capacity, vec_len};
 
 use dfs_host::NoMemory;
 use std::alloc::Global;
@@ -23,8 +23,8 @@ pub struct OpenFiles {
 }
 
 impl OpenFiles {
-    ghost use Rattle.std.specs.Prelude.{IsTrue};
-    ghost use Rattle.dfs_folder.specs.Opened.{EndsWith, HasLatest, IsLatest};
+    ghost use Rattle.std.specs.Prelude.{All, IsTrue, IsFalse};
+    ghost use Rattle.dfs_folder.specs.Opened.{EndsWith, HasLatest, IsLatest, MovesLast};
 
     pub fn new(alloc: Global) -> Result<OpenFiles, NoMemory> {
         let files = Vec::with_capacity(alloc, MOST)?;
@@ -33,7 +33,10 @@ impl OpenFiles {
 
     // Whether the file is open; it is the one used last then.
     pub fn find(&mut self, number: u32) -> bool
-        ensures { IsTrue result → IsLatest number self.new }
+        ensures latest { IsTrue result → IsLatest number self.new }
+        ensures moved { IsTrue result → MovesLast number self.old.files.items self.new.files.items }
+        ensures none { IsFalse result → All (λ open_file. open_file.number ≢ number) self.old.files.items }
+        ensures unchanged { IsFalse result → self.new ≡ self.old }
     {
         let Some(place) = self.files.iter().position(|open| open.number == number) else {
             return false;
@@ -45,7 +48,9 @@ impl OpenFiles {
 
     // Takes an open file in. Where there is no room for it the one used longest ago is closed.
     pub fn keep(&mut self, number: u32, file: File)
-        ensures { IsLatest number self.new }
+        ensures latest { IsLatest number self.new }
+        // Behind those that were open, of which the latest 63 stay.
+        ensures taken { self.new.files.items ≡ drop (vec_len self.old.files - 63) self.old.files.items ++ record { number = number; file = file } ∷ [] }
     {
         if self.files.len() == MOST {
             self.files.remove(0);

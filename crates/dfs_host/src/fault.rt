@@ -23,7 +23,8 @@ pub enum Fault {
     /// A log would pass its limit, or a run would have too many tables.
     #[error("LogFull")]
     LogFull,
-    /// The block at place `at` of the file, read again, was not the block that its index states.
+    /// The block at place `at` of the file, read again, was not the block that its index states. It cannot come until tables are read
+    /// block by block: no block is read a second time.
     #[error("Changed")]
     Changed { file: u32, at: u64 },
 }

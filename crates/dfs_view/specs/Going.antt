@@ -10,6 +10,7 @@ use Rattle.dfs_record.specs.declared.Record.{Record}
 use Rattle.dfs_table.specs.declared.run.Run.{Run}
 use Rattle.dfs_table.specs.Cut.{IsCut}
 use Rattle.dfs_table.specs.Stored.{IsTableOf, run_records}
+use Rattle.dfs_table.specs.Writer.{table_len}
 use Rattle.dfs_table.proofs.Stays.{all_append, all_weaker, run_stays, tables_stay}
 use Rattle.dfs_view.specs.Lists.{Layered, add_one, add_all}
 use Rattle.dfs_view.specs.Layers.{AreFit, StandFor, own_runs, run_count}
@@ -49,6 +50,7 @@ goes_on_by_nothing p live none = record {
   more_cut = λ tells. tt;
   counted = rw live (omega arith);
   growth = rw (live, none) (omega arith);
+  wrote = λ live. omega arith;
   past = λ over. absurd (omega (arith, over, none));
   added = λ tells live l stands. stands;
   bytes = λ tells. take_all _ _ (omega arith);
@@ -80,6 +82,7 @@ goes_on_on p q r rs ss live first second =
       growth =
           let one = subst (λ (b : Bool). q.layers.log.len + q.layers.log.refused + 1100 * cond b q.layers.buffer.made 0 ≤ p.layers.log.len + 1100 * (p.layers.buffer.made + length rs)) live first.growth in
           omega (arith, one, second.growth, length-append rs ss);
+      wrote = λ later. omega (arith, first.wrote live, second.wrote later, sum_by-append (λ (x : Run). sum_by table_len x.tables) first.more second.more);
       past = λ over. let past = second.past over in omega (arith, past, first.log_limit);
       added = λ tells later l stands.
           subst (StandFor r.host r.layers) (ap (λ n. add_all n (add_all p.layers.limit l rs) ss) first.limit ∙ sym (add_all-append p.layers.limit l rs ss))

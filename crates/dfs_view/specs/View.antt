@@ -10,7 +10,7 @@ use Rattle.dfs_record.specs.Delta.{records_of}
 use Rattle.dfs_table.specs.declared.run.Run.{Run}
 use Rattle.dfs_table.specs.Cut.{IsCut}
 use Rattle.dfs_table.specs.Stored.{IsStored, IsTableOf, run_records}
-use Rattle.dfs_table.specs.Writer.{AreIn}
+use Rattle.dfs_table.specs.Writer.{AreIn, table_len}
 use Rattle.dfs_view.specs.declared.layers.Layers.{Layers}
 use Rattle.dfs_view.specs.Layers.{StandFor, own_runs, run_count}
 use Rattle.dfs_view.specs.Lists.{Layered, add_all}
@@ -35,6 +35,14 @@ pub record IsCutIn (host : HostState) (file : ℕ) (run : Run) : Type 0 where
 abbrev pub closed_count : Layers → ℕ
 closed_count layers = sum_by run_count (own_runs layers)
 
+-- how many bytes of a log the runs have: those of their blocks and indexes
+abbrev pub runs_len : List Run → ℕ
+runs_len runs = sum_by (λ r. sum_by table_len r.tables) runs
+
+-- the log grew by the new runs' blocks and indexes alone
+abbrev pub GrowsByRuns : Layers → Layers → Type 0
+GrowsByRuns old new = new.log.len + runs_len (own_runs old) ≡ old.log.len + runs_len (own_runs new)
+
 -- What a pair that may be used keeps, where so many records come in and the layers become others.
 pub record WorksOn (old new : Pair) (count : ℕ) (becomes : Layered → Layered) : Type 0 where
   pub later : now old.host ≤ now new.host
@@ -54,6 +62,8 @@ pub record WorksOn (old new : Pair) (count : ℕ) (becomes : Layered → Layered
   -- a record costs the log at most 1,100 bytes, a piece that was refused counted, and those of the open layer not
   pub growth : new.layers.log.len + new.layers.log.refused + 1100 * cond new.live new.layers.buffer.made 0
       ≤ old.layers.log.len + 1100 * (old.layers.buffer.made + count)
+  -- nothing is written beside the blocks and indexes of the new runs
+  pub wrote : IsTrue new.live → new.layers.log.len ≡ old.layers.log.len + runs_len more
   -- a piece was refused only where it did not fit
   pub past : 0 < new.layers.log.refused → old.layers.log.limit < new.layers.log.len + new.layers.log.refused
   pub added : Told old.host (IsTrue new.live → (l : Layered) → StandFor old.host old.layers l → StandFor new.host new.layers (becomes l))
@@ -71,6 +81,7 @@ pub record IsClosed (host host_after : HostState) (old new : Layers) : Type 0 wh
   pub own : IsOwnRun old.log.file run
   pub count : run_count run ≤ old.buffer.made
   pub cut : IsCut (records_of old.buffer.held) run.tables
+  pub wrote : new.log.len ≡ old.log.len + sum_by table_len run.tables
   pub emptied : new.buffer ≡ nothing
   pub live : IsFalse new.log.spent
   pub none_refused : new.log.refused ≡ 0

@@ -57,6 +57,7 @@ pub put_failed : (host : HostState) (layers : Layers) (b : Buffered) (r : Record
 put_failed host layers b r none = record {
   later = omega arith;
   only = record { tells = refl; say_faults = refl; content = λ tells. nothing_done host (λ bytes may. tt) };
+  reads = refl;
   limit = refl;
   basis = refl;
   file = refl;
@@ -88,6 +89,7 @@ module _ (host : HostState) (layers : Layers) (b : Buffered) (r : Record) (is : 
   put_goes_on room = record {
     later = omega arith;
     only = record { tells = refl; say_faults = refl; content = λ tells. nothing_done host (λ bytes may. tt) };
+    reads = refl;
     limit = refl;
     basis = refl;
     file = refl;
@@ -220,11 +222,12 @@ module _ (host after : HostState) (old new : Layers) (b : Buffered) (count : ℕ
       → Told host (take (length (bytes_of host old.log.file)) (bytes_of after old.log.file) ≡ bytes_of host old.log.file)
   kept closes = λ tells. ap (λ n. take n (bytes_of after old.log.file)) (stand tells).log.len ∙ closes.before tells
 
-  pub closing_works : {A : Type 0} (result : Result A Fault) → Closes host after (record old { buffer = b }) new result
+  pub closing_works : {A : Type 0} (result : Result A Fault) → Closes host after (record old { buffer = b }) new result → after.reads ≡ host.reads
       → WorksOn (record { host = host; layers = old; live = true }) (record { host = after; layers = new; live = is_ok result }) count becomes
-  closing_works (Err e) closes = record {
+  closing_works (Err e) closes reads = record {
     later = later;
     only = closes.only;
+    reads = reads;
     limit = closes.limit;
     basis = closes.basis;
     file = closes.file;
@@ -240,11 +243,12 @@ module _ (host after : HostState) (old new : Layers) (b : Buffered) (count : ℕ
     added = λ tells live. absurd (cc live);
     bytes = kept closes;
   }
-  closing_works (Ok x) closes =
+  closing_works (Ok x) closes reads =
       let closed = closes.closed in
       record {
         later = later;
         only = closes.only;
+        reads = reads;
         limit = closes.limit;
         basis = closes.basis;
         file = closes.file;
@@ -312,6 +316,7 @@ pub none_to_close : (host : HostState) (layers : Layers) → AreFit layers → l
 none_to_close host layers fit none = record {
   later = omega arith;
   only = record { tells = refl; say_faults = refl; content = λ tells. nothing_done host (λ bytes may. tt) };
+  reads = refl;
   limit = refl;
   basis = refl;
   file = refl;
@@ -340,7 +345,7 @@ looks v host s live fit same = record {
   same_host = refl;
   same_layers = refl;
   live = λ _. subst (λ h. GoesOn (pair_of v) (record { host = h; layers = v.layers; live = not s }) []) (sym same) (by s);
-  room = λ fits. record { reads = subst (OnlyReads v.host) (sym same) (reads_nothing v.host); log = refl };
+  room = λ fits. record { idle = same; log = refl };
   spent = λ spent. absurd (cc (live, spent));
 }
   where
@@ -352,6 +357,7 @@ looks v host s live fit same = record {
     by s = record {
       later = omega arith;
       only = record { tells = refl; say_faults = refl; content = λ tells. nothing_done v.host (λ bytes may. tt) };
+      reads = refl;
       limit = refl;
       basis = refl;
       file = refl;

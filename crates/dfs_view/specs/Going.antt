@@ -40,6 +40,7 @@ pub goes_on_by_nothing : (p : Pair) → IsTrue p.live → p.layers.log.refused �
 goes_on_by_nothing p live none = record {
   later = omega arith;
   only = record { tells = refl; say_faults = refl; content = λ tells. nothing_done p.host (λ bytes may. tt) };
+  reads = refl;
   limit = refl;
   basis = refl;
   file = refl;
@@ -65,6 +66,7 @@ goes_on_on p q r rs ss live first second =
     record {
       later = omega (arith, first.later, second.later);
       only = only_goes_on first.only then;
+      reads = second.reads ∙ first.reads;
       limit = second.limit ∙ first.limit;
       basis = second.basis ∙ first.basis;
       file = second.file ∙ first.file;
@@ -116,7 +118,7 @@ room_on v w x rs ss first second fits =
       | inr still ↦
           let step = first.live (was_live v w rs still first) in
           let two = second.room (omega (arith, fits, length-append rs ss, made_grows (pair_of v) (pair_of w) rs (ap not still) step, step.limit)) in
-          record { reads = reads_go_on one.reads two.reads; log = two.log ∙ one.log }
+          record { idle = two.idle ∙ one.idle; log = two.log ∙ one.log }
     ]
 
 pub view_follows_itself : (v : Parts) → (IsFalse v.spent → AreFit v.layers) → ViewFollows v v []
@@ -124,7 +126,7 @@ view_follows_itself v fit = record {
   same_host = refl;
   same_layers = refl;
   live = λ live. goes_on_by_nothing (pair_of v) (ap not live) (fit live).none_refused;
-  room = λ fits. record { reads = reads_nothing v.host; log = refl };
+  room = λ fits. record { idle = refl; log = refl };
   spent = λ spent. record { same = refl; none = refl };
 }
 

@@ -2,7 +2,7 @@
 use Rattle.std.specs.Prelude.{◌≡◌, ◌<◌, ◌≤◌, ◌+◌, ◌*◌, ℕ, Bool, not, IsTrue, IsFalse, cond, List, [], ◌∷◌, ◌++◌, length, take, Result, OnOk, OnErr}
 use Rattle.std.specs.Borrow.{GName}
 use Rattle.std.specs.List.{AllByRecursion, sum_by}
-use Rattle.dfs_host.specs.Host.{HostState, now, Told, bytes_of, Only, OnlyReads}
+use Rattle.dfs_host.specs.Host.{HostState, now, Told, bytes_of, Only}
 use Rattle.dfs_buffer.specs.Buffer.{nothing}
 use Rattle.dfs_log.specs.Logs.{LogStands}
 use Rattle.dfs_record.specs.declared.Record.{Record}
@@ -46,8 +46,9 @@ GrowsByRuns old new = new.log.len + runs_len (own_runs old) ≡ old.log.len + ru
 -- What a pair that may be used keeps, where so many records come in and the layers become others.
 pub record WorksOn (old new : Pair) (count : ℕ) (becomes : Layered → Layered) : Type 0 where
   pub later : now old.host ≤ now new.host
-  -- no file but the log's is written
+  -- no file but the log's is written, and none is read
   pub only : Only old.layers.log.file old.host new.host
+  pub reads : new.host.reads ≡ old.host.reads
   pub limit : new.layers.limit ≡ old.layers.limit
   pub basis : new.layers.basis.items ≡ old.layers.basis.items
   pub file : new.layers.log.file ≡ old.layers.log.file
@@ -129,9 +130,9 @@ pub record Parts : Type 0 where
 abbrev pub pair_of : Parts → Pair
 pair_of parts = record { host = parts.host; layers = parts.layers; live = not parts.spent }
 
--- Nothing is written, and the log is as before.
+-- No call is made of the host, and the log is as before.
 pub record LeavesLog (host host_after : HostState) (old new : Layers) : Type 0 where
-  pub reads : OnlyReads host host_after
+  pub idle : host_after ≡ host
   pub log : new.log ≡ old.log
 
 -- A spent view is followed by itself alone.

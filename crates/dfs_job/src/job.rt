@@ -121,6 +121,7 @@ impl Job {
         ensures before { Told (H.state host.old) (take (length (bytes_of (H.state host.old) self.old.layers.log.file)) (bytes_of (H.state host.new) self.old.layers.log.file) ≡ bytes_of (H.state host.old) self.old.layers.log.file) }
         ensures only { Only self.old.ids.job (H.state host.old) (H.state host.new) }
         ensures cause { HasFaultCause (H.state host.old) (H.state host.new) result }
+        ensures reads { (H.state host.new).reads ≡ (H.state host.old).reads }
         ensures spent { OnErr result (IsTrue self.new.spent) }
     {
         self.spent = true;

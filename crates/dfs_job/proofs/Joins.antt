@@ -1,6 +1,6 @@
 -- The last part of a plan: one layer stands in the place of all that it covered.
 use Rattle.std.proofs.Common.{◌≡◌, ◌∙◌, ◌≤◌, ◌+◌, ◌-◌, ◌*◌, ℕ, zero, suc, Bool, true, false, cond, nat_lt, List, [], ◌∷◌, ◌++◌, length, map, take, drop, refl, sym, ap, subst, arith, append-nil, append_assoc, length-append}
-use Rattle.std.specs.Prelude.{Some, None, IsFalse, flat_map, fold}
+use Rattle.std.specs.Prelude.{Option, Some, None, IsFalse, flat_map, fold}
 use Rattle.std.specs.List.{AllByRecursion, AllZip, sum_by}
 use Rattle.std.specs.declared.cmp.Ordering.{Ordering}
 use Rattle.std.specs.declared.cmp.Ordering.TheVariants.{Less, Equal, Greater}
@@ -32,18 +32,18 @@ use Rattle.dfs_change.specs.Identities.{FitsJob}
 use Rattle.dfs_table.specs.declared.run.Run.{Run}
 use Rattle.dfs_table.specs.declared.table.Table.{Table}
 use Rattle.dfs_table.specs.Stored.{IsBlockOf, IsStored, IsTableOf, records_at, records_by, run_records}
-use Rattle.dfs_table.specs.Writer.{AreIn}
+use Rattle.dfs_table.specs.Writer.{AreIn, table_len}
 use Rattle.dfs_table.proofs.Stays.{all_append, all_weaker}
 use Rattle.dfs_compact.specs.Parts.{count_all, tables_of}
 use Rattle.dfs_view.specs.Layers.{AreStored, LiesIn, own_runs, run_count, selected}
 use Rattle.dfs_view.specs.Lists.{joined}
-use Rattle.dfs_view.specs.View.{IsOwnRun}
+use Rattle.dfs_view.specs.View.{IsOwnRun, runs_len}
 use Rattle.dfs_job.specs.declared.settings.Settings.{Settings}
 use Rattle.dfs_job.specs.declared.job.Job.{Job as LiveJob}
 use Rattle.dfs_job.specs.declared.planning.UnderWay.{UnderWay}
 use Rattle.dfs_job.specs.Job.{Job, Plan, basis_covered, basis_left, covered_changes, covered_records, join, namespace_of, placed}
 use Rattle.dfs_job.specs.Parted.{placed_run}
-use Rattle.dfs_job.specs.Stands.{AreSettings, IsEarlier, IsFair, IsOfEarlier, IsStoredFor, JobIsFit, JobStands, PlansAreFit, PlansStand, basis_count, basis_runs, left_changes, merged_count, own_count, under_way}
+use Rattle.dfs_job.specs.Stands.{AreSettings, IsEarlier, IsFair, IsOfEarlier, IsStoredFor, JobIsFit, JobStands, PlansAreFit, PlansStand, basis_count, basis_runs, behind_plan, left_changes, merged_count, own_count, plan_len, under_way}
 use Rattle.dfs_job.proofs.Fair.{fits_within}
 use Rattle.dfs_job.proofs.Layers.{deltas_from}
 use Rattle.dfs_job.proofs.Merges.{plan_fit, plan_stand}
@@ -226,6 +226,29 @@ placed_count run = by (nat_lt 0 (length run.tables))
     by : (b : Bool) → sum_by run_count (cond b (run ∷ []) []) ≤ run_count run
     by true = omega (arith, sum_by-cons run_count run [])
     by false = omega arith
+
+none_len : (ts : List Table) → length ts ≤ 0 → 0 ≡ sum_by table_len ts
+none_len [] few = refl
+none_len (t ∷ ts) few = absurd (omega (arith, few))
+
+placed_len : (run : Run) → runs_len (placed_run run) ≡ sum_by table_len run.tables
+placed_len run = by (nat_lt 0 (length run.tables)) refl
+  where
+    by : (b : Bool) → nat_lt 0 (length run.tables) ≡ b → runs_len (cond b (run ∷ []) []) ≡ sum_by table_len run.tables
+    by true e = omega (arith, sum_by-cons (λ (x : Run). sum_by table_len x.tables) run [])
+    by false e = none_len run.tables (ltb-false 0 (length run.tables) e)
+
+-- the run of all parts, and behind it the layers that the plan does not cover, have just their bytes
+pub joined_len : (o : Option UnderWay) (u : UnderWay) (run : Run) (rs joined : List Run) → o ≡ Some u → run.tables ≡ tables_of u.compaction.merged → joined ≡ placed_run run ++ drop u.covered rs → runs_len joined ≡ plan_len o + runs_len (behind_plan o rs)
+joined_len o u run rs joined under tables is = omega (
+  arith,
+  ap runs_len is,
+  sum_by-append (λ (x : Run). sum_by table_len x.tables) (placed_run run) (drop u.covered rs),
+  placed_len run,
+  ap (sum_by table_len) tables,
+  ap plan_len under,
+  ap (λ q. runs_len (behind_plan q rs)) under,
+)
 
 left_count : (scope : Scope) (cs : List Change) → sum_by (λ (c : Change). run_count c.run.value) (left_changes scope cs) + count_all (basis_runs scope cs) ≡ sum_by (λ (c : Change). run_count c.run.value) cs
 left_count Own cs = omega arith

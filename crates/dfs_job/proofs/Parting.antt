@@ -1,7 +1,7 @@
 -- Parts that are merged one after the other.
 use Rattle.std.proofs.Common.{◌≡◌, ◌∙◌, ◌≤◌, ◌<◌, ◌+◌, ◌*◌, ◌⊎◌, inl, inr, ℕ, zero, suc, Bool, true, false, List, [], ◌∷◌, length, map, refl, sym, ap, subst, arith}
 use Rattle.std.specs.Prelude.{Option, Some, None, Result, Ok, IsSome, IsSomeAnd, IsTrue, IsFalse, ◌↔◌, flat_map, nat_lt, replicate, slice_get, slice_set}
-use Rattle.std.specs.List.{AllByRecursion}
+use Rattle.std.specs.List.{AllByRecursion, sum_by}
 use Rattle.std.proofs.lemmas.Bool.{lt-ltb, ltb-false, ltb-true}
 use Rattle.std.proofs.lemmas.List.{length-replicate, take_all}
 use Rattle.std.proofs.lemmas.List.Folds.{flat_map-map}
@@ -22,7 +22,7 @@ use Rattle.dfs_plan.specs.Parts.{boundary}
 use Rattle.dfs_table.specs.Counts.{count_of}
 use Rattle.dfs_table.specs.Cut.{tables_needed}
 use Rattle.dfs_table.specs.Tables.{all_fences}
-use Rattle.dfs_table.specs.Writer.{AreIn}
+use Rattle.dfs_table.specs.Writer.{AreIn, table_len}
 use Rattle.dfs_compact.specs.declared.compaction.Parted.{Parted}
 use Rattle.dfs_compact.specs.declared.compaction.Parted.TheVariants.{Merged, Last, Range, Done}
 use Rattle.dfs_compact.specs.Compaction.{AreMerged, CompactionState, IsAdded, IsMerged, IsRefusal, IsWritten, Stands}
@@ -49,7 +49,7 @@ all_merged : (ms : List (Option Run)) → ((k : ℕ) → k < length ms → IsSom
 all_merged [] each = tt
 all_merged (m ∷ ms) each = (each 0 (omega arith), all_merged ms (λ k within. each (suc k) (omega (arith, within))))
 
-no_tables : (n : ℕ) → tables_of (replicate n None) ≡ []
+pub no_tables : (n : ℕ) → tables_of (replicate n None) ≡ []
 no_tables zero = refl
 no_tables (suc n) = no_tables n
 
@@ -92,6 +92,7 @@ pub record IsMerging (start now : HostState) (log_start log : LogState) (old c :
   pub few : (ds : List Delta) → Told start (Stands (bytes_of start) log_start.file old ds → count_of (all_fences (tables_of c.merged)) ≤ count_all old.sources)
   pub needed : (ds : List Delta) → Told start (Stands (bytes_of start) log_start.file old ds → length (tables_of c.merged) ≡ tables_below old.keys old.parts ds done)
   pub tables : 4096 * length (tables_of c.merged) ≤ done * (count_all old.sources + 4095)
+  pub wrote : log.len ≡ log_start.len + sum_by table_len (tables_of c.merged)
   pub growth : log.len ≤ log_start.len + 1100 * count_of (all_fences (tables_of c.merged))
   pub left : Appends start now log_start log
   pub no_fault : NoFault start now
@@ -117,6 +118,7 @@ none_yet_merged start log old parts none many live log_live refused stands =
       few = λ ds tells held. omega (arith, ap (λ ts. count_of (all_fences ts)) tables);
       needed = λ ds tells held. ap length tables;
       tables = omega (arith, ap length tables);
+      wrote = omega (arith, ap (sum_by table_len) tables);
       growth = omega arith;
       left = record {
         before = λ tells. take_all log.len (bytes_of start log.file) (omega (arith, (stands tells).len));

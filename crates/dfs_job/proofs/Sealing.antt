@@ -1,6 +1,6 @@
 -- Runs that are sealed as one.
-use Rattle.std.proofs.Common.{◌≡◌, ◌∙◌, ◌≤◌, ◌+◌, ℕ, suc, zero, List, [], ◌∷◌, ◌++◌, length, take, refl, sym, ap, subst, arith, append-nil, length-append}
-use Rattle.std.specs.Prelude.{Option, Some, None, IsSomeAnd, Result, Ok, Err, IfOk, flat_map, slice_get}
+use Rattle.std.proofs.Common.{◌≡◌, ◌≢◌, ◌∙◌, ◌≤◌, ◌+◌, ℕ, suc, zero, List, [], ◌∷◌, ◌++◌, length, take, refl, sym, ap, subst, arith, append-nil, length-append}
+use Rattle.std.specs.Prelude.{Option, Some, None, IsSomeAnd, Result, Ok, Err, IfOk, OnOk, flat_map, slice_get}
 use Rattle.std.specs.List.{AllByRecursion, sum_by}
 use Rattle.std.proofs.lemmas.List.{length-map, take_more}
 use Rattle.std.proofs.lemmas.List.Sums.{sum_by-append, sum_by-cons}
@@ -14,15 +14,23 @@ use Rattle.dfs_table.specs.declared.run.Run.{Run}
 use Rattle.dfs_table.specs.declared.table.Table.{Table}
 use Rattle.dfs_table.specs.Counts.{count_of}
 use Rattle.dfs_table.specs.Identities.{IsWithin}
-use Rattle.dfs_table.specs.Stored.{IsBlockOf, IsStored, IsTableOf, records_at, records_by, run_records, table_records}
+use Rattle.dfs_table.proofs.Closing.{part_at_end}
+use Rattle.dfs_table.proofs.Stays.{tables_stay}
+use Rattle.dfs_table.specs.Stored.{IsBlockOf, IsStored, IsTableOf, part, records_at, records_by, run_records, table_records}
 use Rattle.dfs_table.specs.Tables.{all_fences}
+use Rattle.dfs_table.specs.Writer.{table_len}
 use Rattle.dfs_registry.specs.declared.listed.Listed.{Listed}
 use Rattle.dfs_change.specs.Identities.{AreFit, FitsJob}
 use Rattle.dfs_change.specs.Meant.{log_meaning}
-use Rattle.dfs_change.specs.Whole.{HasChanges}
+use Rattle.dfs_change.specs.Whole.{HasChanges, extents_of}
+use Rattle.dfs_change.specs.declared.sealing.Sealed.{Sealed}
+use Rattle.dfs_manifest.specs.Manifest.{manifest_bytes}
 use Rattle.dfs_change.proofs.Fits.{all_within}
 use Rattle.dfs_change.proofs.Meant.{whole_logs_mean}
-use Rattle.dfs_view.specs.Layers.{AreStored, run_count}
+use Rattle.dfs_view.specs.declared.layers.Layers.{Layers}
+use Rattle.dfs_view.specs.Layers.{AreStored, own_runs, run_count}
+use Rattle.dfs_view.specs.View.{GrowsByRuns, runs_len}
+use Rattle.dfs_job.specs.Sealed.{HasManifest, SealsLayers}
 use Rattle.dfs_job.specs.Stands.{table_count}
 use Rattle.dfs_job.proofs.Layers.{delta_fits}
 
@@ -110,7 +118,47 @@ pub sealed_means : (file after : List ℕ) (run : Run) (d : Delta) (l : Listed) 
 sealed_means file after run d l stored changes =
     (whole_logs_mean after l (delta (run_records file run.tables))).1 changes ∙ ap Some (ap delta stored.records ∙ delta-records_of d)
 
-only_run : (rs : List Run) (r : Run) → length rs ≡ 1 → slice_get rs 0 ≡ Some r → rs ≡ r ∷ []
+-- the manifest of a run of the file, which was appended
+pub manifest_behind : {E : Type 0} (file after : List ℕ) (end : ℕ) (run : Run) (result : Result Sealed E) → end ≡ length file → AllByRecursion (IsTableOf file) run.tables → OnOk result (after ≡ file ++ manifest_bytes (extents_of run.tables))
+    → IfOk result (λ s. s.at ≡ end) → IfOk result (λ s. s.len ≡ length (manifest_bytes (extents_of run.tables))) → IfOk result (λ s. HasManifest after s.at s.len run)
+manifest_behind file after end run (Err e) same each appended at len = tt
+manifest_behind file after end run (Ok s) same each appended at len =
+    let m = manifest_bytes (extents_of run.tables) in
+    record {
+      bytes = subst (λ f. part f s.at s.len ≡ m) (sym appended) (part_at_end file m s.at s.len (at ∙ same) len);
+      each = subst (λ f. AllByRecursion (IsTableOf f) run.tables) (sym appended) (tables_stay file m run.tables each);
+    }
+
+-- closing the open layer before wrote its run alone
+pub seals_on : (file : List ℕ) (old mid new : Layers) (at len : ℕ) → GrowsByRuns old mid → SealsLayers file mid new at len → SealsLayers file old new at len
+seals_on file old mid new at len grew seals = record {
+  run = seals.run;
+  manifest = seals.manifest;
+  one = λ is. ((seals.one is).0, omega (arith, grew, (seals.one is).1));
+  merged = λ is. omega (arith, grew, seals.merged is);
+}
+
+pub seals_one : {E : Type 0} (file : List ℕ) (old new : Layers) (run : Run) (result : Result Sealed E) → own_runs old ≡ run ∷ [] → own_runs new ≡ own_runs old → IfOk result (λ s. HasManifest file s.at s.len run) → IfOk result (λ s. s.at ≡ old.log.len)
+    → IfOk result (λ s. SealsLayers file old new s.at s.len)
+seals_one file old new run (Err e) only same manifest at = tt
+seals_one file old new run (Ok s) only same manifest at = record {
+  run = run;
+  manifest = manifest;
+  one = λ is. (same ∙ only, omega (arith, at, ap runs_len same));
+  merged = λ several. absurd (several (ap length (same ∙ only)));
+}
+
+pub seals_merged : {E : Type 0} (file : List ℕ) (old new : Layers) (run : Run) (result : Result Sealed E) (mid : ℕ) → length (own_runs old) ≢ 1 → own_runs new ≡ own_runs old → mid ≡ old.log.len + sum_by table_len run.tables → IfOk result (λ s. HasManifest file s.at s.len run)
+    → IfOk result (λ s. s.at ≡ mid) → IfOk result (λ s. SealsLayers file old new s.at s.len)
+seals_merged file old new run (Err e) mid several same wrote manifest at = tt
+seals_merged file old new run (Ok s) mid several same wrote manifest at = record {
+  run = run;
+  manifest = manifest;
+  one = λ is. absurd (several (sym (ap length same) ∙ is));
+  merged = λ is. omega (arith, at, wrote, ap runs_len same, sum_by-append (λ (x : Run). sum_by table_len x.tables) (own_runs new) (run ∷ []), sum_by-cons (λ (x : Run). sum_by table_len x.tables) run []);
+}
+
+pub only_run : (rs : List Run) (r : Run) → length rs ≡ 1 → slice_get rs 0 ≡ Some r → rs ≡ r ∷ []
 only_run [] r one at = absurd (omega (arith, one))
 only_run (x ∷ []) r one at = ap (λ y. y ∷ []) (cc at)
 only_run (x ∷ y ∷ rs) r one at = absurd (omega (arith, one))

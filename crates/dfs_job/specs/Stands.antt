@@ -1,5 +1,5 @@
 -- What a job in memory and the files of a host stand for, and what is so of every job.
-use Rattle.std.specs.Prelude.{◌≡◌, ◌≢◌, ◌≤◌, ◌<◌, ◌+◌, ◌-◌, ◌*◌, ◌++◌, ℕ, Bool, nat_lt, List, [], length, map, slice_get, take, is_some, Option, Some, None, IsSomeAnd, IsFalse}
+use Rattle.std.specs.Prelude.{◌≡◌, ◌≢◌, ◌≤◌, ◌<◌, ◌+◌, ◌-◌, ◌*◌, ◌++◌, ℕ, Bool, nat_lt, List, [], length, drop, map, slice_get, take, is_some, Option, Some, None, IsSomeAnd, IsFalse}
 use Rattle.std.specs.List.{AllByRecursion, AllZip, sum_by}
 use Rattle.std.specs.List.Sorted.{IsPermutation}
 use Rattle.dfs_host.specs.Host.{HostState, Told, bytes_of}
@@ -11,7 +11,7 @@ use Rattle.dfs_table.specs.Counts.{count_of}
 use Rattle.dfs_table.specs.Cut.{IsCut, block_firsts, tables_needed}
 use Rattle.dfs_table.specs.Stored.{IsStored}
 use Rattle.dfs_table.specs.Tables.{all_fences}
-use Rattle.dfs_table.specs.Writer.{AreIn}
+use Rattle.dfs_table.specs.Writer.{AreIn, table_len}
 use Rattle.dfs_table.specs.declared.run.Run.{Run}
 use Rattle.dfs_plan.specs.Parts.{AreSorted}
 use Rattle.dfs_compact.specs.Compaction.{AreMerged, CompactionState, IsMerged, IsPastWith, part_of}
@@ -138,6 +138,16 @@ merged_count (Some u) = count_of (all_fences (tables_of u.compaction.merged))
 abbrev pub plan_tables : Option UnderWay → ℕ
 plan_tables None = 0
 plan_tables (Some u) = length (tables_of u.compaction.merged)
+
+-- how many bytes of the log they have
+abbrev pub plan_len : Option UnderWay → ℕ
+plan_len None = 0
+plan_len (Some u) = sum_by table_len (tables_of u.compaction.merged)
+
+-- the closed layers behind those that the plan covers
+abbrev pub behind_plan : Option UnderWay → List Run → List Run
+behind_plan None runs = runs
+behind_plan (Some u) runs = drop u.covered runs
 
 -- how many records the sources of the plan under way have
 abbrev pub plan_count : Option UnderWay → ℕ

@@ -43,7 +43,7 @@ impl Job {
     ghost use Rattle.dfs_ops.specs.Within.{HasNothingIn};
     ghost use Rattle.dfs_path.specs.Op.{IsOp};
     ghost use Rattle.dfs_record.specs.Delta.{Delta};
-    ghost use Rattle.dfs_view.specs.View.{AddsCut, AddsOpen, LeavesLog};
+    ghost use Rattle.dfs_view.specs.View.{AddsCut, AddsOpen, GrowsByRuns, LeavesLog};
     ghost use Rattle.dfs_job.specs.Job.{Job as PlainJob, after, after_flush, begun, does, first_ids, key_count, namespace_of, need, run_count};
     ghost use Rattle.dfs_job.specs.Stands.{AreSettings, IsEarlier, IsSelectable, IsStoredFor, JobIsFit, JobIsSound, JobStands};
 
@@ -104,6 +104,8 @@ impl Job {
         ensures valid { IfOk result IsReply }
         // Each run that comes is cut as its records say.
         ensures cut { Told (H.state host.old) (AddsCut (H.state host.new) self.old.layers self.new.layers) }
+        // The log grows by the blocks and indexes of these runs alone.
+        ensures wrote { OnOk result (GrowsByRuns self.old.layers self.new.layers) }
         // Nothing is written while the open layer has room for the operation's records.
         ensures room { (j : PlainJob) → Told (H.state host.old) (JobStands (H.state host.old) self.old j → self.old.layers.buffer.made + length (does j op.now).records < self.old.layers.limit
             → LeavesLog (H.state host.old) (H.state host.new) self.old.layers self.new.layers) }
@@ -119,6 +121,7 @@ impl Job {
         ensures before { Told (H.state host.old) (take (length (bytes_of (H.state host.old) self.old.layers.log.file)) (bytes_of (H.state host.new) self.old.layers.log.file) ≡ bytes_of (H.state host.old) self.old.layers.log.file) }
         ensures only { Only self.old.ids.job (H.state host.old) (H.state host.new) }
         ensures cause { HasFaultCause (H.state host.old) (H.state host.new) result }
+        ensures reads { (H.state host.new).reads ≡ (H.state host.old).reads }
         ensures spent { OnErr result (IsTrue self.new.spent) }
     {
         self.spent = true;
@@ -135,6 +138,8 @@ impl Job {
         ensures stands { (j : PlainJob) → Told (H.state host.old) (JobStands (H.state host.old) self.old j → OnOk result (JobStands (H.state host.new) self.new (after_flush j))) }
         // The run of the open layer is cut as its records say.
         ensures cut { OnOk result (AddsOpen self.old.layers self.new.layers) }
+        // The log grows by that run's blocks and indexes alone.
+        ensures wrote { OnOk result (GrowsByRuns self.old.layers self.new.layers) }
         ensures idle { self.old.layers.buffer.made ≡ 0 → LeavesLog (H.state host.old) (H.state host.new) self.old.layers self.new.layers }
         ensures number { self.new.ids ≡ self.old.ids }
         ensures settings { self.new.settings ≡ self.old.settings }

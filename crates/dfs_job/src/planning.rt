@@ -32,12 +32,12 @@ impl Job {
     ghost use Rattle.std.specs.Prelude.{◌≡◌, ◌≤◌, ◌<◌, ◌+◌, ◌*◌, ◌⊎◌, ◌↔◌, [], length, None, Ok, IsSome, IsSomeAnd, IsFalse, IsTrue, IfOk, IfErr, IfSome, OnOk, OnErr, IsErrOf};
     ghost use Rattle.dfs_host.specs.Fault.{HasFaultCause};
     ghost use Rattle.dfs_host.specs.Host.{HostState, Told, Only};
-    ghost use Rattle.dfs_view.specs.Layers.{Stand};
-    ghost use Rattle.dfs_view.specs.View.{AddsOpen};
+    ghost use Rattle.dfs_view.specs.Layers.{Stand, own_runs};
+    ghost use Rattle.dfs_view.specs.View.{AddsOpen, GrowsByRuns, runs_len};
     ghost use Rattle.dfs_job.specs.Job.{Job as PlainJob, after_part, after_plan, joined_as, merged_as, need, part_answer, plan_answer, with_plan};
     ghost use Rattle.dfs_compact.specs.Compaction.{IsMerged};
     ghost use Rattle.dfs_job.specs.Parted.{IsRefusedPart, IsRefusedPlan};
-    ghost use Rattle.dfs_job.specs.Stands.{IsWholePlan, JobIsFit, JobIsSound, JobStands, PassesWith, merges_too_many, plan_count};
+    ghost use Rattle.dfs_job.specs.Stands.{IsWholePlan, JobIsFit, JobIsSound, JobStands, PassesWith, behind_plan, merges_too_many, plan_count, plan_len};
 
     /// Begins a plan over the closed layers, with scope all over the selected change sets as well. It closes the open layer. Without
     /// a number of parts it has as many as the settings say. After a fault the job is spent.
@@ -60,6 +60,8 @@ impl Job {
         ensures stands { (j : PlainJob) → Told (H.state host.old) (JobStands (H.state host.old) self.old j → OnOk result (JobStands (H.state host.new) self.new (after_plan j scope parts))) }
         // The run of the open layer, which a plan that is made closes, is cut as its records say.
         ensures cut { (result ≡ Ok Planned.Made) → AddsOpen self.old.layers self.new.layers }
+        // The log grows by that run's blocks and indexes alone.
+        ensures wrote { OnOk result (GrowsByRuns self.old.layers self.new.layers) }
         ensures number { self.new.ids ≡ self.old.ids }
         ensures settings { self.new.settings ≡ self.old.settings }
         ensures basis { self.new.layers.basis.items ≡ self.old.layers.basis.items }
@@ -139,6 +141,10 @@ impl Job {
         ensures stands { (j : PlainJob) → Told (H.state host.old) (JobStands (H.state host.old) self.old j → OnOk result (JobStands (H.state host.new) self.new (after_part j part))) }
         ensures number { self.new.ids ≡ self.old.ids }
         ensures settings { self.new.settings ≡ self.old.settings }
+        // The log grows by the part's blocks and indexes alone, and with the last part the run of all parts stands in the place of what the
+        // plan covered.
+        ensures wrote { (result ≡ Ok JobPart.Merged) → self.new.layers.log.len + plan_len self.old.plan ≡ self.old.layers.log.len + plan_len self.new.plan }
+        ensures wrote_last { (result ≡ Ok JobPart.Last) → self.new.layers.log.len + plan_len self.old.plan + runs_len (behind_plan self.old.plan (own_runs self.old.layers)) ≡ self.old.layers.log.len + runs_len (own_runs self.new.layers) }
         // With the last part of a plan over the basis that becomes empty.
         ensures basis { (self.new.layers.basis.items ≡ self.old.layers.basis.items) ⊎ (self.new.layers.basis.items ≡ []) }
         // `LogFull` exactly where the log refused a piece or, with the part, the run of the plan would pass 131,072 tables, but for want
@@ -182,6 +188,9 @@ impl Job {
         ensures refused { IfOk result (λ answer. IsRefusedPart answer → (self.new ≡ self.old) × (H.state host.new ≡ H.state host.old)) }
         ensures stands { (j : PlainJob) → Told (H.state host.old) (JobStands (H.state host.old) self.old j → IfOk result (λ answer. JobStands (H.state host.new) self.new (merged_as answer j part))) }
         ensures last { IfOk result (λ answer. answer ≡ JobPart.Last → IsWholePlan self.new.plan) }
+        // The log grows by the part's blocks and indexes alone.
+        ensures wrote { OnOk result (self.new.layers.log.len + plan_len self.old.plan ≡ self.old.layers.log.len + plan_len self.new.plan) }
+        ensures behind { OnOk result (behind_plan self.new.plan (own_runs self.new.layers) ≡ behind_plan self.old.plan (own_runs self.old.layers)) }
         ensures number { self.new.ids ≡ self.old.ids }
         ensures settings { self.new.settings ≡ self.old.settings }
         ensures basis { self.new.layers.basis.items ≡ self.old.layers.basis.items }
@@ -222,6 +231,7 @@ impl Job {
         ensures settings { self.new.settings ≡ self.old.settings }
         ensures basis { (self.new.layers.basis.items ≡ self.old.layers.basis.items) ⊎ (self.new.layers.basis.items ≡ []) }
         ensures log { self.new.layers.log ≡ self.old.layers.log }
+        ensures runs { OnOk result (runs_len (own_runs self.new.layers) ≡ plan_len self.old.plan + runs_len (behind_plan self.old.plan (own_runs self.old.layers))) }
         ensures memory { IfErr result (λ fault. fault ≡ Fault.NoMemory) }
         ensures spent { OnErr result (IsTrue self.new.spent) }
     {

@@ -15,12 +15,12 @@ ghost use Rattle.dfs_change.specs.Sealing.{entry_of};
 ghost use Rattle.dfs_view.specs.Layers.{AreStored, own_runs, run_count};
 ghost use Rattle.dfs_view.specs.View.{IsOwnRun, closed_count};
 ghost use Rattle.dfs_table.specs.Stored.{IsStored};
-ghost use Rattle.dfs_table.specs.Writer.{AreIn};
+ghost use Rattle.dfs_table.specs.Writer.{AreIn, table_len};
 ghost use Rattle.dfs_compact.specs.Compaction.{AreMerged, IsOverfull, Stands as CompactionStands};
 ghost use Rattle.dfs_compact.specs.Parts.{AreSources, count_all, first_keys, tables_below, tables_of};
 ghost use Rattle.dfs_plan.specs.Parts.{AreSorted};
 ghost use Rattle.dfs_record.specs.Records.{Files};
-ghost use Rattle.dfs_job.specs.Sealed.{AreSealable, IsRunOfJob, IsSealable};
+ghost use Rattle.dfs_job.specs.Sealed.{AreSealable, HasManifest, IsRunOfJob, IsSealable, SealsLayers};
 ghost use Rattle.dfs_job.specs.Stands.{MergeTo, Passes, TellsOf, may_pass, table_count};
 
 use crate::Job;
@@ -45,6 +45,7 @@ impl Job {
     ghost use Rattle.dfs_change.specs.Sealing.{entry_of};
     ghost use Rattle.dfs_view.specs.Layers.{own_runs};
     ghost use Rattle.dfs_job.specs.Job.{Job as PlainJob, after_flush, layer_changes, need, own_changes};
+    ghost use Rattle.dfs_job.specs.Sealed.{SealsLayers};
     ghost use Rattle.dfs_job.specs.Stands.{JobIsSound, JobStands, Passes, TellsOf, flushed_firsts, flushed_tables, own_count, publishes_too_many};
 
     /// Seals all layers of the job as one run in its log: the only one as it stands, several ones merged in as many parts as the
@@ -57,12 +58,14 @@ impl Job {
         ensures changes { (j : PlainJob) → Told (H.state host.old) (JobStands (H.state host.old) self.old j
             → IfOk result (λ sealed. (name : List ℕ) → log_meaning (bytes_of (H.state host.new) self.old.ids.job) (entry_of name self.old.ids.job sealed) ≡ Some (own_changes j))) }
         ensures count { (j : PlainJob) → Told (H.state host.old) (JobStands (H.state host.old) self.old j → IfOk result (λ sealed. sealed.count ≡ len (own_changes j))) }
-        // The manifest tells of just the tables of that run: the only layer's, or those of as many parts as the settings say.
+        // The manifest tells of so many tables: those of the only layer, or of as many parts as the settings say.
         ensures tables { (j : PlainJob) → Told (H.state host.old) (JobStands (H.state host.old) self.old j
             → IfOk result (λ sealed. TellsOf (flushed_firsts self.old j) (flushed_tables self.old j) self.old.settings.parts (layer_changes (after_flush j)) sealed.len)) }
         // A job with one closed layer and an empty open one writes its manifest alone, behind what its log had: no table of that layer is
         // written again.
         ensures alone { length (own_runs self.old.layers) ≡ 1 → self.old.layers.buffer.made ≡ 0 → IfOk result (λ sealed. sealed.at ≡ self.old.layers.log.len) }
+        // The manifest is that of the only layer's run, or of the run that several, or none, were merged to, and nothing else was written.
+        ensures seals { Told (H.state host.old) (IfOk result (λ sealed. SealsLayers (bytes_of (H.state host.new) self.old.ids.job) self.old.layers self.new.layers sealed.at sealed.len)) }
         // Nothing stands behind the manifest, in the log and in its file.
         ensures ends { IfOk result (λ sealed. self.new.layers.log.len ≡ sealed.at + sealed.len) }
         ensures file_ends { Told (H.state host.old) (IfOk result (λ sealed. length (bytes_of (H.state host.new) self.old.ids.job) ≡ sealed.at + sealed.len)) }
@@ -112,6 +115,7 @@ fn seal<H: Host>(
         → IfOk result (λ sealed. TellsOf (first_keys (own_runs layers.old)) (table_count (own_runs layers.old)) parts (map delta ls) sealed.len)) }
     // The only run is sealed by its manifest alone, behind what the log had.
     ensures alone { length (own_runs layers.old) ≡ 1 → IfOk result (λ sealed. sealed.at ≡ layers.old.log.len) }
+    ensures seals { Told (H.state host.old) (IfOk result (λ sealed. SealsLayers (bytes_of (H.state host.new) layers.old.log.file) layers.old layers.new sealed.at sealed.len)) }
     // Nothing stands behind the manifest.
     ensures ends { IfOk result (λ sealed. layers.new.log.len ≡ sealed.at + sealed.len) }
     ensures log { Told (H.state host.old) (OnOk result (LogStands (H.state host.new) layers.new.log)) }
@@ -155,6 +159,7 @@ fn finish<H: Host>(
         → IfOk result (λ sealed. (name : List ℕ) → log_meaning (bytes_of (H.state host.new) log.old.file) (entry_of name log.old.file sealed) ≡ Some d)) }
     ensures count { (d : Delta) → Told (H.state host.old) (IsStored (bytes_of (H.state host.old) log.old.file) run.now d → IfOk result (λ sealed. sealed.count ≡ len d)) }
     ensures len { IfOk result (λ sealed. sealed.len ≡ 4 + 12 * length run.now.tables) }
+    ensures manifest { Told (H.state host.old) (IfOk result (λ sealed. HasManifest (bytes_of (H.state host.new) log.old.file) sealed.at sealed.len run.now)) }
     // The manifest stands behind what the log had, and nothing behind it.
     ensures at { IfOk result (λ sealed. sealed.at ≡ log.old.len) }
     ensures ends { IfOk result (λ sealed. log.new.len ≡ sealed.at + sealed.len) }
@@ -204,6 +209,8 @@ fn merge_runs<H: Host>(
         → IsErrOf result Fault.LogFull → (0 < log.new.refused) ⊎ (536870912 < sum_by run_count (map (λ r. r.value) runs.now) + 4095 * parts)) }
     ensures refuses { 0 < log.new.refused → IsErrOf result Fault.LogFull }
     ensures over { 0 < log.new.refused → log.new.limit < log.new.len + log.new.refused }
+    // The log grows by the run's blocks and indexes alone.
+    ensures wrote { IfOk result (λ run. log.new.len ≡ log.old.len + sum_by table_len run.tables) }
     ensures growth { (ls : List (List AnyRecord)) → Told (H.state host.old) (AreStored (bytes_of (H.state host.old) log.old.file) (map (λ r. r.value) runs.now) ls
         → log.new.len + log.new.refused ≤ log.old.len + 1100 * sum_by run_count (map (λ r. r.value) runs.now)) }
     ensures same { (log.new.file ≡ log.old.file) × (log.new.limit ≡ log.old.limit) }
@@ -264,6 +271,7 @@ fn merge_parts<H: Host>(
     ensures overfull { (ds : List Delta) → Told (H.state host.old) (CompactionStands (bytes_of (H.state host.old)) log.old.file compaction.old ds → IsErrOf result Fault.LogFull → (0 < log.new.refused) ⊎ IsOverfull compaction.old) }
     ensures refuses { 0 < log.new.refused → IsErrOf result Fault.LogFull }
     ensures over { 0 < log.new.refused → log.new.limit < log.new.len + log.new.refused }
+    ensures wrote { OnOk result (log.new.len ≡ log.old.len + sum_by table_len (tables_of compaction.new.merged)) }
     ensures growth { (ds : List Delta) → Told (H.state host.old) (CompactionStands (bytes_of (H.state host.old)) log.old.file compaction.old ds → log.new.len + log.new.refused ≤ log.old.len + 1100 * count_all compaction.old.sources) }
     ensures same { (log.new.file ≡ log.old.file) × (log.new.limit ≡ log.old.limit) }
     ensures never_changed { (file at : ℕ) → IsErrOf result (Fault.Changed file at) → ⊥ }

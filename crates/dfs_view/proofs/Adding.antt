@@ -21,11 +21,12 @@ use Rattle.dfs_buffer.specs.Buffer.{Buffered, StandsFor, after_put, counted}
 use Rattle.dfs_table.specs.declared.run.Run.{Run}
 use Rattle.dfs_table.specs.Cut.{IsCut}
 use Rattle.dfs_table.specs.Stored.{IsStored, IsTableOf, run_records}
+use Rattle.dfs_table.specs.Writer.{table_len}
 use Rattle.dfs_table.proofs.Stays.{all_append, all_weaker, run_stays, tables_stay}
 use Rattle.dfs_view.specs.declared.layers.Layers.{Layers}
 use Rattle.dfs_view.specs.Layers.{AreFit, AreStored, LiesIn, Stand, StandFor, entry_left, layers_map, own_runs, records_on, run_count, runs_of}
 use Rattle.dfs_view.specs.Lists.{Layered, add_all, closed_by, flushed}
-use Rattle.dfs_view.specs.View.{Closes, GoesOn, IsClosed, Parts, ViewFollows, WorksOn, pair_of}
+use Rattle.dfs_view.specs.View.{Closes, GoesOn, GrowsByRuns, IsClosed, Pair, Parts, ViewFollows, WorksOn, pair_of, runs_len}
 use Rattle.dfs_view.proofs.Parts.{records_in_file}
 
 pub on_ok : {T E P Q : Type 0} (result : Result T E) → OnOk result P → (P → Q) → OnOk result Q
@@ -56,6 +57,7 @@ pub put_failed : (host : HostState) (layers : Layers) (b : Buffered) (r : Record
 put_failed host layers b r none = record {
   later = omega arith;
   only = record { tells = refl; say_faults = refl; content = λ tells. nothing_done host (λ bytes may. tt) };
+  reads = refl;
   limit = refl;
   basis = refl;
   file = refl;
@@ -66,6 +68,7 @@ put_failed host layers b r none = record {
   more_cut = λ tells. tt;
   counted = omega arith;
   growth = omega (arith, none);
+  wrote = λ live. absurd (cc live);
   past = λ over. absurd (omega (arith, over, none));
   added = λ tells live. absurd (cc live);
   bytes = λ tells. take_all _ _ (omega arith);
@@ -86,6 +89,7 @@ module _ (host : HostState) (layers : Layers) (b : Buffered) (r : Record) (is : 
   put_goes_on room = record {
     later = omega arith;
     only = record { tells = refl; say_faults = refl; content = λ tells. nothing_done host (λ bytes may. tt) };
+    reads = refl;
     limit = refl;
     basis = refl;
     file = refl;
@@ -96,6 +100,7 @@ module _ (host : HostState) (layers : Layers) (b : Buffered) (r : Record) (is : 
     more_cut = λ tells. tt;
     counted = omega (arith, made_more);
     growth = omega (arith, none, made_more);
+    wrote = λ live. omega arith;
     past = λ over. absurd (omega (arith, over, none));
     added = λ tells live l stands.
         let stood = stands_more l.open_ stands.open_ in
@@ -217,11 +222,12 @@ module _ (host after : HostState) (old new : Layers) (b : Buffered) (count : ℕ
       → Told host (take (length (bytes_of host old.log.file)) (bytes_of after old.log.file) ≡ bytes_of host old.log.file)
   kept closes = λ tells. ap (λ n. take n (bytes_of after old.log.file)) (stand tells).log.len ∙ closes.before tells
 
-  pub closing_works : {A : Type 0} (result : Result A Fault) → Closes host after (record old { buffer = b }) new result
+  pub closing_works : {A : Type 0} (result : Result A Fault) → Closes host after (record old { buffer = b }) new result → after.reads ≡ host.reads
       → WorksOn (record { host = host; layers = old; live = true }) (record { host = after; layers = new; live = is_ok result }) count becomes
-  closing_works (Err e) closes = record {
+  closing_works (Err e) closes reads = record {
     later = later;
     only = closes.only;
+    reads = reads;
     limit = closes.limit;
     basis = closes.basis;
     file = closes.file;
@@ -232,15 +238,17 @@ module _ (host after : HostState) (old new : Layers) (b : Buffered) (count : ℕ
     more_cut = λ tells. tt;
     counted = omega (arith, ap (λ rs. sum_by run_count rs) closes.same_runs);
     growth = omega (arith, closes.growth, made);
+    wrote = λ live. absurd (cc live);
     past = closes.past;
     added = λ tells live. absurd (cc live);
     bytes = kept closes;
   }
-  closing_works (Ok x) closes =
+  closing_works (Ok x) closes reads =
       let closed = closes.closed in
       record {
         later = later;
         only = closes.only;
+        reads = reads;
         limit = closes.limit;
         basis = closes.basis;
         file = closes.file;
@@ -259,6 +267,7 @@ module _ (host after : HostState) (old new : Layers) (b : Buffered) (count : ℕ
           ap (λ (y : Buffered). y.made) closed.emptied,
         );
         growth = omega (arith, closes.growth, made, ap (λ (y : Buffered). y.made) closed.emptied);
+        wrote = λ live. omega (arith, closed.wrote, sum_by-cons (λ (x : Run). sum_by table_len x.tables) closed.run []);
         past = closes.past;
         added = λ tells live l stands.
             let with = closes_with l stands in
@@ -307,6 +316,7 @@ pub none_to_close : (host : HostState) (layers : Layers) → AreFit layers → l
 none_to_close host layers fit none = record {
   later = omega arith;
   only = record { tells = refl; say_faults = refl; content = λ tells. nothing_done host (λ bytes may. tt) };
+  reads = refl;
   limit = refl;
   basis = refl;
   file = refl;
@@ -317,10 +327,15 @@ none_to_close host layers fit none = record {
   more_cut = λ tells. tt;
   counted = omega arith;
   growth = omega (arith, fit.none_refused);
+  wrote = λ live. omega arith;
   past = λ over. absurd (omega (arith, over, fit.none_refused));
   added = λ tells live l stands. subst (StandFor host layers) (sym (flushed_none l (omega (arith, none, stands.open_.made)))) stands;
   bytes = λ tells. take_all _ _ (omega arith);
 }
+
+-- the log of a pair that goes on grew by its new runs alone
+pub grows_by_runs : (p q : Pair) (count : ℕ) (becomes : Layered → Layered) → WorksOn p q count becomes → IsTrue q.live → GrowsByRuns p.layers q.layers
+grows_by_runs p q count becomes works live = omega (arith, works.wrote live, ap runs_len works.runs, sum_by-append (λ (x : Run). sum_by table_len x.tables) (own_runs p.layers) works.more)
 
 -- ---- looks
 
@@ -330,7 +345,7 @@ looks v host s live fit same = record {
   same_host = refl;
   same_layers = refl;
   live = λ _. subst (λ h. GoesOn (pair_of v) (record { host = h; layers = v.layers; live = not s }) []) (sym same) (by s);
-  room = λ fits. record { reads = subst (OnlyReads v.host) (sym same) (reads_nothing v.host); log = refl };
+  room = λ fits. record { idle = same; log = refl };
   spent = λ spent. absurd (cc (live, spent));
 }
   where
@@ -342,6 +357,7 @@ looks v host s live fit same = record {
     by s = record {
       later = omega arith;
       only = record { tells = refl; say_faults = refl; content = λ tells. nothing_done v.host (λ bytes may. tt) };
+      reads = refl;
       limit = refl;
       basis = refl;
       file = refl;
@@ -352,6 +368,7 @@ looks v host s live fit same = record {
       more_cut = λ tells. tt;
       counted = omega (arith, all (not s));
       growth = omega (arith, fit.none_refused, all (not s));
+      wrote = λ live. omega arith;
       past = λ over. absurd (omega (arith, over, fit.none_refused));
       added = λ tells live l stands. stands;
       bytes = λ tells. take_all _ _ (omega arith);

@@ -10,6 +10,7 @@ use Rattle.dfs_record.specs.declared.Record.{Record}
 use Rattle.dfs_table.specs.declared.run.Run.{Run}
 use Rattle.dfs_table.specs.Cut.{IsCut}
 use Rattle.dfs_table.specs.Stored.{IsTableOf, run_records}
+use Rattle.dfs_table.specs.Writer.{table_len}
 use Rattle.dfs_table.proofs.Stays.{all_append, all_weaker, run_stays, tables_stay}
 use Rattle.dfs_view.specs.Lists.{Layered, add_one, add_all}
 use Rattle.dfs_view.specs.Layers.{AreFit, StandFor, own_runs, run_count}
@@ -39,6 +40,7 @@ pub goes_on_by_nothing : (p : Pair) → IsTrue p.live → p.layers.log.refused �
 goes_on_by_nothing p live none = record {
   later = omega arith;
   only = record { tells = refl; say_faults = refl; content = λ tells. nothing_done p.host (λ bytes may. tt) };
+  reads = refl;
   limit = refl;
   basis = refl;
   file = refl;
@@ -49,6 +51,7 @@ goes_on_by_nothing p live none = record {
   more_cut = λ tells. tt;
   counted = rw live (omega arith);
   growth = rw (live, none) (omega arith);
+  wrote = λ live. omega arith;
   past = λ over. absurd (omega (arith, over, none));
   added = λ tells live l stands. stands;
   bytes = λ tells. take_all _ _ (omega arith);
@@ -63,6 +66,7 @@ goes_on_on p q r rs ss live first second =
     record {
       later = omega (arith, first.later, second.later);
       only = only_goes_on first.only then;
+      reads = second.reads ∙ first.reads;
       limit = second.limit ∙ first.limit;
       basis = second.basis ∙ first.basis;
       file = second.file ∙ first.file;
@@ -80,6 +84,7 @@ goes_on_on p q r rs ss live first second =
       growth =
           let one = subst (λ (b : Bool). q.layers.log.len + q.layers.log.refused + 1100 * cond b q.layers.buffer.made 0 ≤ p.layers.log.len + 1100 * (p.layers.buffer.made + length rs)) live first.growth in
           omega (arith, one, second.growth, length-append rs ss);
+      wrote = λ later. omega (arith, first.wrote live, second.wrote later, sum_by-append (λ (x : Run). sum_by table_len x.tables) first.more second.more);
       past = λ over. let past = second.past over in omega (arith, past, first.log_limit);
       added = λ tells later l stands.
           subst (StandFor r.host r.layers) (ap (λ n. add_all n (add_all p.layers.limit l rs) ss) first.limit ∙ sym (add_all-append p.layers.limit l rs ss))
@@ -113,7 +118,7 @@ room_on v w x rs ss first second fits =
       | inr still ↦
           let step = first.live (was_live v w rs still first) in
           let two = second.room (omega (arith, fits, length-append rs ss, made_grows (pair_of v) (pair_of w) rs (ap not still) step, step.limit)) in
-          record { reads = reads_go_on one.reads two.reads; log = two.log ∙ one.log }
+          record { idle = two.idle ∙ one.idle; log = two.log ∙ one.log }
     ]
 
 pub view_follows_itself : (v : Parts) → (IsFalse v.spent → AreFit v.layers) → ViewFollows v v []
@@ -121,7 +126,7 @@ view_follows_itself v fit = record {
   same_host = refl;
   same_layers = refl;
   live = λ live. goes_on_by_nothing (pair_of v) (ap not live) (fit live).none_refused;
-  room = λ fits. record { reads = reads_nothing v.host; log = refl };
+  room = λ fits. record { idle = refl; log = refl };
   spent = λ spent. record { same = refl; none = refl };
 }
 

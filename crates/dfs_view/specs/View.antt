@@ -2,7 +2,7 @@
 use Rattle.std.specs.Prelude.{◌≡◌, ◌<◌, ◌≤◌, ◌+◌, ◌*◌, ℕ, Bool, not, IsTrue, IsFalse, cond, List, [], ◌∷◌, ◌++◌, length, take, Result, OnOk, OnErr}
 use Rattle.std.specs.Borrow.{GName}
 use Rattle.std.specs.List.{AllByRecursion, sum_by}
-use Rattle.dfs_host.specs.Host.{HostState, now, Told, bytes_of, Only, OnlyReads}
+use Rattle.dfs_host.specs.Host.{HostState, now, Told, bytes_of, Only}
 use Rattle.dfs_buffer.specs.Buffer.{nothing}
 use Rattle.dfs_log.specs.Logs.{LogStands}
 use Rattle.dfs_record.specs.declared.Record.{Record}
@@ -10,7 +10,7 @@ use Rattle.dfs_record.specs.Delta.{records_of}
 use Rattle.dfs_table.specs.declared.run.Run.{Run}
 use Rattle.dfs_table.specs.Cut.{IsCut}
 use Rattle.dfs_table.specs.Stored.{IsStored, IsTableOf, run_records}
-use Rattle.dfs_table.specs.Writer.{AreIn}
+use Rattle.dfs_table.specs.Writer.{AreIn, table_len}
 use Rattle.dfs_view.specs.declared.layers.Layers.{Layers}
 use Rattle.dfs_view.specs.Layers.{StandFor, own_runs, run_count}
 use Rattle.dfs_view.specs.Lists.{Layered, add_all}
@@ -35,11 +35,20 @@ pub record IsCutIn (host : HostState) (file : ℕ) (run : Run) : Type 0 where
 abbrev pub closed_count : Layers → ℕ
 closed_count layers = sum_by run_count (own_runs layers)
 
+-- how many bytes of a log the runs have: those of their blocks and indexes
+abbrev pub runs_len : List Run → ℕ
+runs_len runs = sum_by (λ r. sum_by table_len r.tables) runs
+
+-- the log grew by the new runs' blocks and indexes alone
+abbrev pub GrowsByRuns : Layers → Layers → Type 0
+GrowsByRuns old new = new.log.len + runs_len (own_runs old) ≡ old.log.len + runs_len (own_runs new)
+
 -- What a pair that may be used keeps, where so many records come in and the layers become others.
 pub record WorksOn (old new : Pair) (count : ℕ) (becomes : Layered → Layered) : Type 0 where
   pub later : now old.host ≤ now new.host
-  -- no file but the log's is written
+  -- no file but the log's is written, and none is read
   pub only : Only old.layers.log.file old.host new.host
+  pub reads : new.host.reads ≡ old.host.reads
   pub limit : new.layers.limit ≡ old.layers.limit
   pub basis : new.layers.basis.items ≡ old.layers.basis.items
   pub file : new.layers.log.file ≡ old.layers.log.file
@@ -54,6 +63,8 @@ pub record WorksOn (old new : Pair) (count : ℕ) (becomes : Layered → Layered
   -- a record costs the log at most 1,100 bytes, a piece that was refused counted, and those of the open layer not
   pub growth : new.layers.log.len + new.layers.log.refused + 1100 * cond new.live new.layers.buffer.made 0
       ≤ old.layers.log.len + 1100 * (old.layers.buffer.made + count)
+  -- nothing is written beside the blocks and indexes of the new runs
+  pub wrote : IsTrue new.live → new.layers.log.len ≡ old.layers.log.len + runs_len more
   -- a piece was refused only where it did not fit
   pub past : 0 < new.layers.log.refused → old.layers.log.limit < new.layers.log.len + new.layers.log.refused
   pub added : Told old.host (IsTrue new.live → (l : Layered) → StandFor old.host old.layers l → StandFor new.host new.layers (becomes l))
@@ -71,6 +82,7 @@ pub record IsClosed (host host_after : HostState) (old new : Layers) : Type 0 wh
   pub own : IsOwnRun old.log.file run
   pub count : run_count run ≤ old.buffer.made
   pub cut : IsCut (records_of old.buffer.held) run.tables
+  pub wrote : new.log.len ≡ old.log.len + sum_by table_len run.tables
   pub emptied : new.buffer ≡ nothing
   pub live : IsFalse new.log.spent
   pub none_refused : new.log.refused ≡ 0
@@ -118,9 +130,9 @@ pub record Parts : Type 0 where
 abbrev pub pair_of : Parts → Pair
 pair_of parts = record { host = parts.host; layers = parts.layers; live = not parts.spent }
 
--- Nothing is written, and the log is as before.
+-- No call is made of the host, and the log is as before.
 pub record LeavesLog (host host_after : HostState) (old new : Layers) : Type 0 where
-  pub reads : OnlyReads host host_after
+  pub idle : host_after ≡ host
   pub log : new.log ≡ old.log
 
 -- A spent view is followed by itself alone.

@@ -1,8 +1,8 @@
-use Rattle.std.proofs.Common.{◌∙◌, arith}
+use Rattle.std.proofs.Common.{◌∙◌, arith, sym}
 use Rattle.dfs_host.specs.Host.{bytes_of}
 use Rattle.dfs_change.specs.Sealing.{entry_of}
 use Rattle.dfs_change.proofs.Ended.{manifest_length}
-use Rattle.dfs_job.proofs.Sealing.{manifest_cost, ok_then, sealed_means, sealed_within, stored_count}
+use Rattle.dfs_job.proofs.Sealing.{manifest_behind, manifest_cost, ok_then, sealed_means, sealed_within, stored_count}
 use Rattle.dfs_job.proofs.publishing.finish.Goals as goal
 
 pub finish-requires-clause-within : goal.finish-requires-clause-within
@@ -26,3 +26,9 @@ returns-clause-len g c = ok_then c.finish.result _ _ c.finish.ensures.len (λ se
 pub returns-clause-growth : goal.returns-clause-growth
 returns-clause-growth g c = λ tells.
     omega (arith, c.finish.ensures.growth, manifest_cost (bytes_of (g.H.Host.state c.args.host.now) c.args.log.now.file) c.args.run.now (c.requires.of_job tells).stored.each)
+
+pub returns-clause-manifest : goal.returns-clause-manifest
+returns-clause-manifest g c = λ tells.
+    let file = c.args.log.now.file in
+    manifest_behind (bytes_of (g.H.Host.state c.args.host.now) file) (bytes_of (g.H.Host.state c.finish.new.host) file) c.args.log.now.len c.args.run.now c.finish.result (sym (c.requires.stands tells).len) (c.requires.of_job tells).stored.each (c.finish.ensures.appended tells)
+    c.finish.ensures.at c.finish.ensures.len

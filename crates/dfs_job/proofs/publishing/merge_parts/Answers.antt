@@ -58,6 +58,7 @@ loop-part-preserved g c =
           ∙ ap (λ n. tables_below c.args.compaction.now.keys c.args.compaction.now.parts ds part + tables_needed (merged_part (boundary c.args.compaction.now.keys n part) (boundary c.args.compaction.now.keys n (part + 1)) ds)) h.parts
           ∙ sym (one_below c.args.compaction.now.keys c.args.compaction.now.parts ds part);
       tables = omega (arith, h.tables, x.tables, ap count_all h.sources);
+      wrote = omega (arith, h.wrote, x.wrote);
       growth = omega (arith, h.growth, x.growth);
       left = appends_on new c.requires.stands h.log_stands h.left all.before all.only all.reads all.log_same.0 all.log_same.1 all.over;
       no_fault = none_by h.no_fault all.cause (λ is. cc (is, was));

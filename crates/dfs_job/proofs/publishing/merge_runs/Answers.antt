@@ -4,6 +4,7 @@ use Rattle.std.specs.List.{sum_by}
 use Rattle.dfs_host.specs.Host.{bytes_of}
 use Rattle.dfs_record.specs.Delta.{delta}
 use Rattle.dfs_table.specs.Stored.{IsStored}
+use Rattle.dfs_table.specs.Writer.{table_len}
 use Rattle.std.proofs.lemmas.List.{length-map}
 use Rattle.dfs_compact.specs.Parts.{count_all, first_keys, tables_below}
 use Rattle.dfs_compact.proofs.Sorted.{sorted_once}
@@ -110,3 +111,7 @@ returns-clause-too_many g c = λ ls tells stored passes.
       ap length c.take.ensures.tables,
       c.take.ensures.few,
     ))
+
+pub returns-clause-wrote : goal.returns-clause-wrote
+returns-clause-wrote g c =
+    omega (arith, c.in_ok-merge_parts.ensures.wrote, ap (sum_by table_len) c.take.ensures.tables)

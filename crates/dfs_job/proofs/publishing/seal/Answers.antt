@@ -1,17 +1,18 @@
-use Rattle.std.proofs.Common.{inl, inr, List, ◌∙◌, ◌≡◌, ap, arith, sym, subst, length, map}
+use Rattle.std.proofs.Common.{inl, inr, List, ◌∙◌, ◌≡◌, ◌≢◌, refl, ap, arith, sym, subst, length, map}
 use Rattle.std.proofs.lemmas.List.{length-map}
 use Rattle.std.proofs.lemmas.Result.{err_from_is_err_and}
 use Rattle.dfs_host.specs.Host.{Only, bytes_of}
 use Rattle.dfs_host.proofs.Moments.{only_goes_on}
 use Rattle.dfs_record.specs.Delta.{delta}
 use Rattle.dfs_record.specs.declared.Record.{Record}
-use Rattle.std.specs.Prelude.{flat_map}
+use Rattle.std.specs.Prelude.{IfOk, flat_map}
 use Rattle.dfs_change.specs.Identities.{AreFit}
 use Rattle.dfs_table.specs.Stored.{IsStored}
 use Rattle.dfs_view.specs.Layers.{AreStored, own_runs}
 use Rattle.dfs_compact.specs.Parts.{first_keys}
+use Rattle.dfs_job.specs.Sealed.{SealsLayers}
 use Rattle.dfs_job.specs.Stands.{MergeTo, Passes}
-use Rattle.dfs_job.proofs.Sealing.{joined_fit, ok_then, only_count, only_stored, only_tables, run_in, stored_lengths}
+use Rattle.dfs_job.proofs.Sealing.{joined_fit, ok_then, only_count, only_run, only_stored, only_tables, run_in, seals_merged, seals_one, stored_lengths}
 use Rattle.dfs_job.proofs.publishing.seal.Goals as goal
 
 pub finish-requires-clause-of_job : goal.finish-requires-clause-of_job
@@ -125,3 +126,20 @@ returns-clause-tables g c = λ ls tells are.
       alone = λ one. absurd (omega (arith, c.if-len-eq1.false, c.len.ensures, length-map layers.runs.items (λ r. r.value), stored_lengths files (own_runs layers) ls are.stored, length-map ls delta, one));
       merged = λ several. subst (λ xs. MergeTo (first_keys (map (λ r. r.value) xs)) c.args.parts (map delta ls) (length c.in_ok-run.run'.tables)) c.deref-2.ensures.value (c.in_ok-run.ensures.tables ls tells stored);
     })
+
+pub returns-then-len-eq1-clause-seals : goal.returns-then-len-eq1-clause-seals
+returns-then-len-eq1-clause-seals g c = λ tells.
+    let layers = c.args.layers.now in
+    let rs = own_runs layers in
+    let run = c.run_at.result.now in
+    let at = run_in rs 0 run (ap (map (λ r. r.value)) c.deref.ensures.value) c.run_at.ensures in
+    let one : length rs ≡ 1 = omega (arith, c.if-len-eq1.true, c.len.ensures, length-map layers.runs.items (λ r. r.value)) in
+    seals_one (bytes_of (g.H.Host.state c.finish.new.host) layers.log.file) layers (record layers { log = c.finish.new.log }) run c.finish.result (only_run rs run one at) refl (c.finish.ensures.manifest tells) c.finish.ensures.at
+
+pub returns-clause-seals : goal.returns-clause-seals
+returns-clause-seals g c = λ tells.
+    let layers = c.args.layers.now in
+    let of = c.in_ok-run.ensures in
+    let several : length (own_runs layers) ≢ 1 = λ one. absurd (omega (arith, c.if-len-eq1.false, c.len.ensures, one, length-map layers.runs.items (λ r. r.value))) in
+    subst (λ n. IfOk c.finish-2.result (λ sealed. SealsLayers (bytes_of (g.H.Host.state c.finish-2.new.host) n) layers (record layers { log = c.finish-2.new.log }) sealed.at sealed.len)) of.same.0
+    (seals_merged (bytes_of (g.H.Host.state c.finish-2.new.host) c.merge_runs.new.log.file) layers (record layers { log = c.finish-2.new.log }) c.in_ok-run.run' c.finish-2.result c.merge_runs.new.log.len several refl of.wrote (c.finish-2.ensures.manifest (of.cause.tells ∙ tells)) c.finish-2.ensures.at)

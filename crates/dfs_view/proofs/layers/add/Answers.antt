@@ -34,13 +34,13 @@ returns-clause-goes_on g c =
     let b = c.put.new.self in
     closing_works (g.H.Host.state c.args.host.now) (g.H.Host.state c.close.new.host) old c.close.new.layers b 1 (λ l. add_all old.limit l (c.args.rec ∷ [])) (omega (arith, ap (λ (x : Buffered). x.made) c.in-Ok.ensures.ok)) c.close.ensures.cause.later
     c.requires.stand
-    (closes_with_one (g.H.Host.state c.args.host.now) old b c.args.rec c.requires.fit.room c.requires.fit.most (omega (arith, c.if-made-layers.false, c.made.ensures.made)) c.in-Ok.ensures.stands) c.close.result c.close.ensures.closes
+    (closes_with_one (g.H.Host.state c.args.host.now) old b c.args.rec c.requires.fit.room c.requires.fit.most (omega (arith, c.if-made-layers.false, c.made.ensures.made)) c.in-Ok.ensures.stands) c.close.result c.close.ensures.closes c.close.ensures.reads
 
 pub returns-in_default-clause-room : goal.returns-in_default-clause-room
-returns-in_default-clause-room g c = λ fits. record { reads = reads_nothing (g.H.Host.state c.args.host.now); log = refl }
+returns-in_default-clause-room g c = λ fits. record { idle = refl; log = refl }
 
 pub returns-then-made-layers-clause-room : goal.returns-then-made-layers-clause-room
-returns-then-made-layers-clause-room g c = λ fits. record { reads = reads_nothing (g.H.Host.state c.args.host.now); log = refl }
+returns-then-made-layers-clause-room g c = λ fits. record { idle = refl; log = refl }
 
 pub returns-clause-room : goal.returns-clause-room
 returns-clause-room g c = λ fits. absurd (omega (arith, fits, c.if-made-layers.false, c.made.ensures.made, ap (λ (x : Buffered). x.made) c.in-Ok.ensures.ok))

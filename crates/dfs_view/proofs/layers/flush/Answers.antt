@@ -8,7 +8,7 @@ pub returns-clause-works : goal.returns-clause-works
 returns-clause-works g c =
     let old = c.args.layers.now in
     closing_works (g.H.Host.state c.args.host.now) (g.H.Host.state c.close.new.host) old c.close.new.layers old.buffer 0 flushed (omega arith) c.close.ensures.cause.later c.requires.stand
-    (closes_with_all (g.H.Host.state c.args.host.now) old (omega arith)) c.close.result c.close.ensures.closes
+    (closes_with_all (g.H.Host.state c.args.host.now) old (omega arith)) c.close.result c.close.ensures.closes c.close.ensures.reads
 
 pub returns-then-made-eq0-clause-works : goal.returns-then-made-eq0-clause-works
 returns-then-made-eq0-clause-works g c = none_to_close (g.H.Host.state c.args.host.now) c.args.layers.now c.requires.fit (omega (arith, c.if-made-eq0.true, c.made.ensures.made))
@@ -24,7 +24,7 @@ returns-clause-map g c = λ tells.
     (λ closed. closed_map (g.H.Host.state c.args.host.now) (g.H.Host.state c.close.new.host) c.args.layers.now c.close.new.layers c.close.ensures.closes tells (c.requires.stand tells) closed)
 
 pub returns-then-made-eq0-clause-idle : goal.returns-then-made-eq0-clause-idle
-returns-then-made-eq0-clause-idle g c = λ none. record { reads = reads_nothing (g.H.Host.state c.args.host.now); log = refl }
+returns-then-made-eq0-clause-idle g c = λ none. record { idle = refl; log = refl }
 
 pub returns-clause-idle : goal.returns-clause-idle
 returns-clause-idle g c = λ none. absurd (omega (arith, none, c.if-made-eq0.false, c.made.ensures.made))

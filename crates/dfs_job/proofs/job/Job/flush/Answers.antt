@@ -1,6 +1,7 @@
 use Rattle.std.proofs.Common.{◌∙◌, ◌+◌, ap, arith, false, refl, sym}
 use Rattle.std.proofs.lemmas.Result.{err_from_is_err_and}
 use Rattle.dfs_view.specs.Lists.{flushed}
+use Rattle.dfs_view.proofs.Adding.{grows_by_runs}
 use Rattle.dfs_job.specs.Job.{after_flush}
 use Rattle.dfs_job.specs.declared.settings.Settings.{Settings}
 use Rattle.dfs_job.proofs.Keeping.{account_short, fit_after, flush_stands}
@@ -37,3 +38,6 @@ returns-in_err-flush-clause-short g c = λ j tells stands is.
       fit.log_bytes,
       ap (λ (s : Settings). s.log_bytes) stands.settings,
     )
+
+pub returns-clause-wrote : goal.returns-clause-wrote
+returns-clause-wrote g c = grows_by_runs _ _ 0 flushed c.in_ok-flush.ensures.works refl

@@ -6,7 +6,7 @@ use Rattle.dfs_job.specs.declared.job.Job.{Job as LiveJob}
 use Rattle.dfs_job.specs.Job.{covered_changes, joined_as}
 use Rattle.dfs_job.specs.Parted.{placed_run}
 use Rattle.dfs_job.specs.Stands.{JobStands}
-use Rattle.dfs_job.proofs.Joins.{join_stands}
+use Rattle.dfs_job.proofs.Joins.{join_stands, joined_len}
 use Rattle.dfs_job.proofs.Merges.{compaction_stands, held}
 use Rattle.dfs_job.proofs.job.Job.join.Goals as goal
 
@@ -30,3 +30,11 @@ returns-clause-stands c = λ host j tells stands.
     subst (λ q. JobStands host new (joined_as q j)) (sym of.1)
     (join_stands old new u run fit under refl refl refl refl refl refl c.take.ensures.after (c.in-Ok.ensures ∙ ap (λ (rs : List (Rc Run Global)). placed_run run ++ drop u.covered (map (λ r. r.value) rs)) c.deref.ensures.value) c.leave.ensures.left host j of.0 stands of.1
     c.take-2.ensures.tables (c.take-2.ensures.stored (bytes_of host) old.layers.log.file (covered_changes of.0 j) stand) (c.take-2.ensures.most (bytes_of host) old.layers.log.file (covered_changes of.0 j) stand))
+
+pub returns-clause-runs : goal.returns-clause-runs
+returns-clause-runs c =
+    let old = c.args.self.now in
+    let u = c.in-Some.plan in
+    let run : Run = c.take-2.result in
+    joined_len old.plan u run (map (λ r. r.value) old.layers.runs.items) (map (λ r. r.value) c.in-Ok.runs.items) (sym c.take.ensures.value ∙ c.in-Some.is) c.take-2.ensures.tables
+    (c.in-Ok.ensures ∙ ap (λ (rs : List (Rc Run Global)). placed_run run ++ drop u.covered (map (λ r. r.value) rs)) c.deref.ensures.value)

@@ -3,6 +3,7 @@ use Rattle.std.proofs.lemmas.Result.{err_from_is_err_and}
 use Rattle.dfs_ops.specs.Op.{AreIds, Outcome, outcome}
 use Rattle.dfs_view.specs.Layers.{layers_map}
 use Rattle.dfs_view.specs.Lists.{add_all}
+use Rattle.dfs_view.proofs.Adding.{grows_by_runs}
 use Rattle.dfs_job.specs.Job.{after, does}
 use Rattle.dfs_job.proofs.Fair.{fresh_after}
 use Rattle.dfs_job.proofs.Prefixes.{prefix_few}
@@ -66,3 +67,6 @@ returns-in_err-answer-clause-room g c = λ j tells stands room.
     let applied = c.in_err-answer.ensures.applied in
     let all = (outcome (layers_map (g.H.Host.state c.args.host.now) c.args.self.now.layers) c.args.self.now.ids c.args.op.now).records in
     applied.room (omega (arith, room, prefix_few applied.records all (applied.first tells), ap (λ (o : Outcome). length o.records) (same_outcome (g.H.Host.state c.args.host.now) c.args.self.now j c.args.op.now stands)))
+
+pub returns-clause-wrote : goal.returns-clause-wrote
+returns-clause-wrote g c = let applied = c.in_ok-answer.ensures.applied in grows_by_runs _ _ (length applied.records) (λ l. add_all c.args.self.now.layers.limit l applied.records) applied.went_on refl

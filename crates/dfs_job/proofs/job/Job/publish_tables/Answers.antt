@@ -17,6 +17,9 @@ use Rattle.dfs_job.specs.Stands.{Passes, TellsOf, flushed_tables, own_count}
 use Rattle.dfs_job.proofs.Flushed.{firsts_flushed, flushed_sealable, tables_flushed}
 use Rattle.dfs_job.proofs.Layers.{flushed_closed}
 use Rattle.dfs_job.proofs.Parting.{passes_more}
+use Rattle.dfs_view.proofs.Adding.{grows_by_runs}
+use Rattle.dfs_job.specs.Sealed.{SealsLayers}
+use Rattle.dfs_job.proofs.Sealing.{ok_then, seals_on}
 use Rattle.dfs_job.proofs.job.Job.publish_tables.Goals as goal
 
 pub seal-requires-clause-sealable : goal.seal-requires-clause-sealable
@@ -138,3 +141,12 @@ pub returns-in_err-flush-clause-passes : goal.returns-in_err-flush-clause-passes
 returns-in_err-flush-clause-passes g c = λ j tells stands is.
     let p = err_from_is_err_and c.from_residual.result c.from_residual.ensures.1 in
     inl (c.flush.ensures.full.0 (cc (is, c.in_err-flush.was, p.1, p.2)))
+
+pub returns-clause-seals : goal.returns-clause-seals
+returns-clause-seals g c = λ tells.
+    let of = c.in_ok-flush.ensures in
+    let old = c.args.self.now in
+    let file = of.works.file ∙ c.requires.sound.fit.file in
+    let grew = grows_by_runs _ _ 0 flushed of.works refl in
+    subst (λ n. IfOk c.seal.result (λ sealed. SealsLayers (bytes_of (g.H.Host.state c.seal.new.host) n) old.layers c.seal.new.layers sealed.at sealed.len)) file
+    (ok_then c.seal.result _ _ (c.seal.ensures.seals (of.cause.tells ∙ tells)) (λ sealed seals. seals_on _ old.layers c.flush.new.layers c.seal.new.layers sealed.at sealed.len grew seals))

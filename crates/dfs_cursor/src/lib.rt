@@ -4,8 +4,8 @@
 //! `RangeRecords` has of another source what lies from one key up to, not with, another, and `EitherRecords` is a
 //! source of one kind or of another.
 //!
-//! The definitions stand in `specs/`: the part between two keys, and what is unread of it, in `Ranges`, and what a
-//! meaning of two kinds gives in `Either`.
+//! The definitions stand in `specs/`: the part between two keys, and what is unread of it, in `Ranges`, what a meaning
+//! of two kinds gives in `Either`, and what a slice keeps behind its first record in `Slices`.
 #![tactic(auto)]
 
 mod either;

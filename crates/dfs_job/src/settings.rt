@@ -3,7 +3,7 @@
 pub struct Settings {
     /// How many records an open layer has at most: 1 to 65,536.
     pub buffer: u32,
-    /// How many look-ups are kept: 1 to 65,536.
+    /// How many look-ups may be kept: 1 to 65,536. None are kept yet.
     pub cache: u32,
     /// How many parts a plan has where none are asked for, and a publication of several layers: 1 to 256.
     pub parts: u16,

@@ -20,7 +20,7 @@ use std::alloc::Global;
 ///
 /// The job's number is at least 1, its counter is at most the number of its records, and these are
 /// at most 1,048,576; this holds again after every answer but a fault. A fault comes by the causes
-/// of the space's calls alone, and `LogFull` where a `store` of this call answered it; after a
+/// of the space's calls or for want of memory, and `LogFull` where a `store` of this call answered it; after a
 /// fault nothing is said of the map and of `ids`.
 pub fn apply<S: Space>(
     alloc: Global,

@@ -41,6 +41,7 @@ use Rattle.dfs_session.specs.Session.{Session, Step, Registry, of_live, publicat
 use Rattle.dfs_session.specs.Sound.{AreApart, HasItsBegin, IsEntry, IsListed, IsLive, IsSound, NoneHas, PlainOf, number_of, jobs_of, listed_in, live_in}
 use Rattle.dfs_session.specs.Stands.{EntryStands, Stands, LogIsSettled, LeavesValue}
 use Rattle.dfs_session.specs.Worked.{IsWorked, has_refused, job_is, publishing_anew}
+use Rattle.dfs_session.specs.Writes.{FileStays}
 use Rattle.dfs_session.proofs.Begun.{HasEnded, begins_still, each_ended, each_mapped, found_front, kept_still, still_none}
 use Rattle.dfs_session.proofs.Changing.{Found, found_job, listed_kept, own_job_images, own_keeps, own_value, was_live}
 use Rattle.dfs_session.proofs.Faults.{sound_refused, not_true, full_by}
@@ -94,6 +95,13 @@ in_range before session word live sound found =
 -- the log of a live job is not file 0
 pub no_registry : (before : HostState) (session : LiveSession) (word : JobWord) (live : LiveJob) → IsSound before session → live_in session word ≡ Some live → 0 ≢ live.ids.job
 no_registry before session word live sound found same = absurd (omega (arith, same, (was_live before before session word live sound found).fit.ids.job))
+
+-- an entry that was not written, but for a failed device call, leaves file 0 as the log's calls left it
+pub unlisted_stays : (before mid after : HostState) (fault : Fault) → (fault ≡ NoMemory → after ≡ mid) → (fault ≡ LogFull → ⊥) → ((file at : ℕ) → fault ≡ Changed file at → ⊥) → fault ≢ Disk → FileStays 0 before mid → FileStays 0 before after
+unlisted_stays before mid after NoMemory memory full never other stays = subst (FileStays 0 before) (sym (memory refl)) stays
+unlisted_stays before mid after Disk memory full never other stays = absurd (other refl)
+unlisted_stays before mid after LogFull memory full never other stays = absurd (full refl)
+unlisted_stays before mid after (Changed file at) memory full never other stays = absurd (never file at refl)
 
 -- ---- the images while the registry is written
 

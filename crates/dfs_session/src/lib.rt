@@ -3,7 +3,8 @@
 //! `Session::open` reads the registry of a host, and `Session::step` works one line and answers its reply. Both speak of the plain
 //! session of specs/Session: publications with their change sets, settings, and the plain jobs of `dfs_job`. The layer above has the
 //! reply, the session after the line, what files and images stand for, and each answer's cause (specs/Worked). specs/Files says what
-//! files stand for, specs/Stands and specs/Sound when a session stands for a plain one and what is so of all, specs/Kept and
+//! files stand for and specs/Images what images hold, specs/Stands and specs/Sound when a session stands for a plain one and what is
+//! so of all, specs/Writes which files are written, specs/Selected and specs/Taken what a begin selects and takes, specs/Kept and
 //! specs/Places what begins keep and where it lies, specs/Reads how often they read, specs/Run what a script writes, specs/Isolation
 //! and specs/Room what jobs are told and need.
 #![tactic(auto)]

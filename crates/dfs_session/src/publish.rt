@@ -65,7 +65,8 @@ fn list<H: Host>(host: &mut H, registry: &mut Registry, listed: Listed) -> Resul
 }
 
 impl Session {
-    ghost use Rattle.std.specs.Prelude.{◌≡◌, ◌<◌, false, length, IsErrOf, OnOk};
+    ghost use Rattle.std.specs.Prelude.{◌≡◌, ◌≢◌, ◌<◌, false, length, IsErrOf, OnOk};
+    ghost use Rattle.dfs_host.specs.declared.fault.Fault.{Fault as AFault};
     ghost use Rattle.dfs_host.specs.Host.{Told};
     ghost use Rattle.dfs_registry.specs.Body.{lists_name};
     ghost use Rattle.dfs_script.specs.declared.Line.TheVariants.{Publish};
@@ -86,7 +87,7 @@ impl Session {
         ensures worked { IsWorked (publishing word.now name) (H.state host.old) (H.state host.new) self.old self.new result }
         ensures too_many { (s : PlainSession) → Told (H.state host.old) (Stands (H.state host.old) self.old s → NameIsFree s word.now name × PublicationPasses (live_in self.old word.now) (live_job s word.now) → OnOk result ⊥) }
         ensures at_once { (s : PlainSession) → Told (H.state host.old) (Stands (H.state host.old) self.old s → IsRefusedAtOnce (Publish word.now name) (publishes_for s word.now name).reply → StaysInMemory result (H.state host.old) (H.state host.new)) }
-        ensures memory { Told (H.state host.old) (IsErrOf result Fault.NoMemory → FileStays 0 (H.state host.old) (H.state host.new)) }
+        ensures faults { (fault : AFault) → Told (H.state host.old) (IsErrOf result fault → fault ≢ Fault.Disk → FileStays 0 (H.state host.old) (H.state host.new)) }
     {
         if !self.jobs.contains_key(word) {
             return text_of(self.alloc, &Reply::Error(Word::NoJob));
@@ -113,7 +114,7 @@ impl Session {
 
         ensures worked { IsWorked (publishing_anew word.now name) (H.state host.old) (H.state host.new) self.old self.new result }
         ensures too_many { (s : PlainSession) → Told (H.state host.old) (Stands (H.state host.old) self.old s → PublicationPasses (live_in self.old word.now) (live_job s word.now) → OnOk result ⊥) }
-        ensures memory { Told (H.state host.old) (IsErrOf result Fault.NoMemory → FileStays 0 (H.state host.old) (H.state host.new)) }
+        ensures faults { (fault : AFault) → Told (H.state host.old) (IsErrOf result fault → fault ≢ Fault.Disk → FileStays 0 (H.state host.old) (H.state host.new)) }
     {
         let alloc = self.alloc;
         let Some(job) = self.jobs.get_mut(word) else {

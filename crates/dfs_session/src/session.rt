@@ -53,10 +53,11 @@ pub fn text_of(alloc: Global, reply: &Reply) -> Result<Vec<u8>, Fault>
 }
 
 impl Session {
-    ghost use Rattle.std.specs.Prelude.{◌≡◌, ◌<◌, ◌⊎◌, ℕ, List, Some, Ok, IfOk, IfErr, IfSome, OnOk, OnErr, IsTrue, IsErrOf};
+    ghost use Rattle.std.specs.Prelude.{◌≡◌, ◌≢◌, ◌<◌, ◌⊎◌, ℕ, List, Some, Ok, IfOk, IfErr, IfSome, OnOk, OnErr, IsTrue, IsErrOf};
     ghost use Rattle.std.specs.List.{AllByRecursion, list_all};
     ghost use Rattle.dfs_host.specs.Disk.{IsSettled};
     ghost use Rattle.dfs_host.specs.Fault.{HasFaultCause};
+    ghost use Rattle.dfs_host.specs.declared.fault.Fault.{Fault as AFault};
     ghost use Rattle.dfs_host.specs.Host.{HostState, Told, LeavesOnly, ChangesOnly, Only, OnlyReads, bytes_of};
     ghost use Rattle.dfs_registry.specs.Opening.{HasRegCause, IsShut};
     ghost use Rattle.dfs_registry.specs.Reading.{registry as reading};
@@ -135,11 +136,12 @@ impl Session {
         ensures images { (s : PlainSession) → Told (H.state host.old) (Stands (H.state host.old) self.old s
             → LeavesOnly (HoldsEither s.registry (step_of s line.now).session.registry) (H.state host.old) (H.state host.new)) }
         ensures durable { (s : PlainSession) → Told (H.state host.old) (Stands (H.state host.old) self.old s → OnOk result (HoldsNow (step_of s line.now).session.registry (H.state host.new))) }
-        // No file is written but the log of the line's job and, by a publication, the registry. So the log of no publication is.
+        // No file is written but the log of the line's job and, by a publication, the registry. So the logs of the
+        // publications before the line stay.
         ensures writes { OnlyThese (writes_by (meaning line.now) self.old) (H.state host.old) (H.state host.new) }
         ensures logs { (s : PlainSession) → Told (H.state host.old) (Stands (H.state host.old) self.old s → LogsStay s.registry (H.state host.old) (H.state host.new)) }
-        // Want of memory comes before the registry is touched: a publication that ends so leaves its file as it was.
-        ensures memory { Told (H.state host.old) (IsErrOf result Fault.NoMemory → FileStays 0 (H.state host.old) (H.state host.new)) }
+        // No fault but a failed device call comes once the registry is touched: a line that ends with one leaves its file as it was.
+        ensures faults { (fault : AFault) → Told (H.state host.old) (IsErrOf result fault → fault ≢ Fault.Disk → FileStays 0 (H.state host.old) (H.state host.new)) }
         ensures cause { HasFaultCause (H.state host.old) (H.state host.new) result }
         // `LogFull` exactly where the log of the line's job refused a piece or the run that the line merges would pass 131,072 tables,
         // but for want of memory and a disk fault; on a host that tells nothing, only where by counts it may need more. And only
@@ -182,7 +184,7 @@ impl Session {
         ensures at_once { (s : PlainSession) → Told (H.state host.old) (Stands (H.state host.old) self.old s → refused_at_once (meaning line.now) (step_of s line.now).reply → StaysInMemory result (H.state host.old) (H.state host.new)) }
         ensures looks { (s : PlainSession) → Told (H.state host.old) (Stands (H.state host.old) self.old s → changes_none (meaning line.now) (step_of s line.now).reply → OnlyReads (H.state host.old) (H.state host.new)) }
         ensures in_memory { from_memory (meaning line.now) → StaysInMemory result (H.state host.old) (H.state host.new) }
-        ensures memory { Told (H.state host.old) (IsErrOf result Fault.NoMemory → FileStays 0 (H.state host.old) (H.state host.new)) }
+        ensures faults { (fault : AFault) → Told (H.state host.old) (IsErrOf result fault → fault ≢ Fault.Disk → FileStays 0 (H.state host.old) (H.state host.new)) }
     {
         match read_line(self.alloc, line) {
             Ok(line) => self.obey(host, line),
@@ -202,7 +204,7 @@ impl Session {
         ensures at_once { (s : PlainSession) → Told (H.state host.old) (Stands (H.state host.old) self.old s → IsRefusedAtOnce (line) (after_command s line).reply → StaysInMemory result (H.state host.old) (H.state host.new)) }
         ensures looks { (s : PlainSession) → Told (H.state host.old) (Stands (H.state host.old) self.old s → ChangesNone line (after_command s line).reply → OnlyReads (H.state host.old) (H.state host.new)) }
         ensures in_memory { IsFromMemory line → StaysInMemory result (H.state host.old) (H.state host.new) }
-        ensures memory { Told (H.state host.old) (IsErrOf result Fault.NoMemory → FileStays 0 (H.state host.old) (H.state host.new)) }
+        ensures faults { (fault : AFault) → Told (H.state host.old) (IsErrOf result fault → fault ≢ Fault.Disk → FileStays 0 (H.state host.old) (H.state host.new)) }
     {
         match line {
             Line::Nothing => text_of(self.alloc, &Reply::Nothing),

@@ -40,35 +40,35 @@ returns-in-End-clause-worked g c =
     let host = g.H.Host.state c.args.host.now in
     subst (λ (line : Line). IsWorked (of_command line) host host c.args.self.now c.end.new.self c.end.result) (sym c.in-End.is) (c.end.ensures.worked host c.requires.sound)
 
-pub returns-in-Nothing-clause-memory : goal.returns-in-Nothing-clause-memory
-returns-in-Nothing-clause-memory g c = λ tells is. file_idle 0 (g.H.Host.state c.args.host.now)
+pub returns-in-Nothing-clause-faults : goal.returns-in-Nothing-clause-faults
+returns-in-Nothing-clause-faults g c = λ fault tells is other. file_idle 0 (g.H.Host.state c.args.host.now)
 
-pub returns-in-Set-clause-memory : goal.returns-in-Set-clause-memory
-returns-in-Set-clause-memory g c = λ tells is. file_idle 0 (g.H.Host.state c.args.host.now)
+pub returns-in-Set-clause-faults : goal.returns-in-Set-clause-faults
+returns-in-Set-clause-faults g c = λ fault tells is other. file_idle 0 (g.H.Host.state c.args.host.now)
 
-pub returns-in-Snapshots-clause-memory : goal.returns-in-Snapshots-clause-memory
-returns-in-Snapshots-clause-memory g c = λ tells is. file_idle 0 (g.H.Host.state c.args.host.now)
+pub returns-in-Snapshots-clause-faults : goal.returns-in-Snapshots-clause-faults
+returns-in-Snapshots-clause-faults g c = λ fault tells is other. file_idle 0 (g.H.Host.state c.args.host.now)
 
-pub returns-in-Stats-clause-memory : goal.returns-in-Stats-clause-memory
-returns-in-Stats-clause-memory g c = λ tells is. file_idle 0 (g.H.Host.state c.args.host.now)
+pub returns-in-Stats-clause-faults : goal.returns-in-Stats-clause-faults
+returns-in-Stats-clause-faults g c = λ fault tells is other. file_idle 0 (g.H.Host.state c.args.host.now)
 
-pub returns-in-End-clause-memory : goal.returns-in-End-clause-memory
-returns-in-End-clause-memory g c = λ tells is. file_idle 0 (g.H.Host.state c.args.host.now)
+pub returns-in-End-clause-faults : goal.returns-in-End-clause-faults
+returns-in-End-clause-faults g c = λ fault tells is other. file_idle 0 (g.H.Host.state c.args.host.now)
 
-pub returns-in-Begin-clause-memory : goal.returns-in-Begin-clause-memory
-returns-in-Begin-clause-memory g c = λ tells is. begin_leaves_registry (g.H.Host.state c.args.host.now) c.args.self.now c.requires.sound tells (g.H.Host.state c.begin.new.host) c.begin.ensures.worked.writes
+pub returns-in-Begin-clause-faults : goal.returns-in-Begin-clause-faults
+returns-in-Begin-clause-faults g c = λ fault tells is other. begin_leaves_registry (g.H.Host.state c.args.host.now) c.args.self.now c.requires.sound tells (g.H.Host.state c.begin.new.host) c.begin.ensures.worked.writes
 
-pub returns-in-Space-clause-memory : goal.returns-in-Space-clause-memory
-returns-in-Space-clause-memory g c = λ tells is. log_leaves_registry (g.H.Host.state c.args.host.now) c.args.self.now c.requires.sound tells c.in-Space.job (g.H.Host.state c.operate.new.host) c.operate.ensures.worked.writes
+pub returns-in-Space-clause-faults : goal.returns-in-Space-clause-faults
+returns-in-Space-clause-faults g c = λ fault tells is other. log_leaves_registry (g.H.Host.state c.args.host.now) c.args.self.now c.requires.sound tells c.in-Space.job (g.H.Host.state c.operate.new.host) c.operate.ensures.worked.writes
 
-pub returns-in-Flush-clause-memory : goal.returns-in-Flush-clause-memory
-returns-in-Flush-clause-memory g c = λ tells is. log_leaves_registry (g.H.Host.state c.args.host.now) c.args.self.now c.requires.sound tells c.in-Flush.job (g.H.Host.state c.flush.new.host) c.flush.ensures.worked.writes
+pub returns-in-Flush-clause-faults : goal.returns-in-Flush-clause-faults
+returns-in-Flush-clause-faults g c = λ fault tells is other. log_leaves_registry (g.H.Host.state c.args.host.now) c.args.self.now c.requires.sound tells c.in-Flush.job (g.H.Host.state c.flush.new.host) c.flush.ensures.worked.writes
 
-pub returns-in-Plan-clause-memory : goal.returns-in-Plan-clause-memory
-returns-in-Plan-clause-memory g c = λ tells is. log_leaves_registry (g.H.Host.state c.args.host.now) c.args.self.now c.requires.sound tells c.in-Plan.job (g.H.Host.state c.plan.new.host) c.plan.ensures.worked.writes
+pub returns-in-Plan-clause-faults : goal.returns-in-Plan-clause-faults
+returns-in-Plan-clause-faults g c = λ fault tells is other. log_leaves_registry (g.H.Host.state c.args.host.now) c.args.self.now c.requires.sound tells c.in-Plan.job (g.H.Host.state c.plan.new.host) c.plan.ensures.worked.writes
 
-pub returns-in-Part-clause-memory : goal.returns-in-Part-clause-memory
-returns-in-Part-clause-memory g c = λ tells is. log_leaves_registry (g.H.Host.state c.args.host.now) c.args.self.now c.requires.sound tells c.in-Part.job (g.H.Host.state c.part.new.host) c.part.ensures.worked.writes
+pub returns-in-Part-clause-faults : goal.returns-in-Part-clause-faults
+returns-in-Part-clause-faults g c = λ fault tells is other. log_leaves_registry (g.H.Host.state c.args.host.now) c.args.self.now c.requires.sound tells c.in-Part.job (g.H.Host.state c.part.new.host) c.part.ensures.worked.writes
 
 pub returns-in-Nothing-clause-looks : goal.returns-in-Nothing-clause-looks
 returns-in-Nothing-clause-looks g c = λ s tells stands is. reads_nothing (g.H.Host.state c.args.host.now)

@@ -120,11 +120,11 @@ returns-clause-at_once g c = λ s tells stands is.
     let few : false ≡ nat_le 4096 (length (listed_in session)) = sym (lt-leb 4096 (length (listed_in session)) (omega (arith, c.if-count-ge-MOST_PUBLICATIONS.false, c.count.ensures.count))) in
     absurd (not_refused session s w name stands (found_job host session s w live.0 stands live.1) anew few is)
 
-pub returns-then-not-contains_key-clause-memory : goal.returns-then-not-contains_key-clause-memory
-returns-then-not-contains_key-clause-memory g c = λ tells is. file_idle 0 (g.H.Host.state c.args.host.now)
+pub returns-then-not-contains_key-clause-faults : goal.returns-then-not-contains_key-clause-faults
+returns-then-not-contains_key-clause-faults g c = λ fault tells is other. file_idle 0 (g.H.Host.state c.args.host.now)
 
-pub returns-then-is_some-clause-memory : goal.returns-then-is_some-clause-memory
-returns-then-is_some-clause-memory g c = λ tells is. file_idle 0 (g.H.Host.state c.args.host.now)
+pub returns-then-is_some-clause-faults : goal.returns-then-is_some-clause-faults
+returns-then-is_some-clause-faults g c = λ fault tells is other. file_idle 0 (g.H.Host.state c.args.host.now)
 
-pub returns-then-count-ge-MOST_PUBLICATIONS-clause-memory : goal.returns-then-count-ge-MOST_PUBLICATIONS-clause-memory
-returns-then-count-ge-MOST_PUBLICATIONS-clause-memory g c = λ tells is. file_idle 0 (g.H.Host.state c.args.host.now)
+pub returns-then-count-ge-MOST_PUBLICATIONS-clause-faults : goal.returns-then-count-ge-MOST_PUBLICATIONS-clause-faults
+returns-then-count-ge-MOST_PUBLICATIONS-clause-faults g c = λ fault tells is other. file_idle 0 (g.H.Host.state c.args.host.now)

@@ -21,12 +21,10 @@ use Rattle.dfs_session.specs.Worked.{IsShort, IsWorked, PublicationPasses, publi
 use Rattle.dfs_session.proofs.Changing.{fault_worked, found_job, no_job, past_of, publication_passed, publication_passes, registry_still, so_of_job, still_unrefused, was_live, was_sound}
 use Rattle.dfs_session.proofs.Handed.{fault_or, memory_not_full, none_unless}
 use Rattle.dfs_session.proofs.Jobs.{Live, remove_set}
-use Rattle.dfs_session.proofs.Publishing.{in_range, no_registry, published_worked, unlisted_worked}
+use Rattle.dfs_session.proofs.Publishing.{in_range, no_registry, published_worked, unlisted_stays, unlisted_worked}
 use Rattle.dfs_session.proofs.Selecting.{no_fault}
 use Rattle.dfs_session.proofs.Working.{memory_cause, stays_in_memory}
 use Rattle.dfs_session.proofs.Writing.{file_idle, log_written, other_stays}
-use Rattle.dfs_host.specs.Host.{HostState}
-use Rattle.dfs_session.specs.Writes.{FileStays}
 use Rattle.dfs_session.proofs.session.Session.publish_anew.Goals as goal
 
 pub returns-in_default-clause-worked : goal.returns-in_default-clause-worked
@@ -161,21 +159,22 @@ returns-clause-too_many g c = λ s tells stands many.
     let f = found_job before session s w live stands found in
     c.in_ok-sealed.ensures.too_many f.plain tells f.is (publication_passes before before session w live c.requires.sound found s f many)
 
-pub returns-in_default-clause-memory : goal.returns-in_default-clause-memory
-returns-in_default-clause-memory g c = λ tells is. file_idle 0 (g.H.Host.state c.args.host.now)
+pub returns-in_default-clause-faults : goal.returns-in_default-clause-faults
+returns-in_default-clause-faults g c = λ fault tells is other. file_idle 0 (g.H.Host.state c.args.host.now)
 
-pub returns-in_err-sealed-clause-memory : goal.returns-in_err-sealed-clause-memory
-returns-in_err-sealed-clause-memory g c = λ tells is.
+pub returns-in_err-sealed-clause-faults : goal.returns-in_err-sealed-clause-faults
+returns-in_err-sealed-clause-faults g c = λ fault tells is other.
     other_stays 0 c.in-Some.job.now.ids.job (no_registry (g.H.Host.state c.args.host.now) c.args.self.now c.args.word.now c.in-Some.job.now c.requires.sound (sym c.in-Some.ensures.value)) c.publish_tables.ensures.only tells
 
-pub returns-in_err-reply-clause-memory : goal.returns-in_err-reply-clause-memory
-returns-in_err-reply-clause-memory g c = λ tells is.
+pub returns-in_err-reply-clause-faults : goal.returns-in_err-reply-clause-faults
+returns-in_err-reply-clause-faults g c = λ fault tells is other.
     other_stays 0 c.in-Some.job.now.ids.job (no_registry (g.H.Host.state c.args.host.now) c.args.self.now c.args.word.now c.in-Some.job.now c.requires.sound (sym c.in-Some.ensures.value)) c.publish_tables.ensures.only tells
 
-pub returns-in_err-list-clause-memory : goal.returns-in_err-list-clause-memory
-returns-in_err-list-clause-memory g c = λ tells is.
-    let fault = c.in_err-list.field-0.0 in
+pub returns-in_err-list-clause-faults : goal.returns-in_err-list-clause-faults
+returns-in_err-list-clause-faults g c = λ fault tells is other.
     let p = err_from_is_err_and c.from_residual-in_err-list.result c.from_residual-in_err-list.ensures.1 in
-    let same : c.from_residual-in_err-list.result ≡ Err fault = p.1 ∙ ap Err p.2 in
-    subst (λ (host : HostState). FileStays 0 (g.H.Host.state c.args.host.now) host) (sym (c.list.ensures.memory (c.in_err-list.was ∙ ap Err (ap fault_or (sym same ∙ is)))))
+    let same : c.in_err-list.field-0.0 ≡ fault = ap fault_or (sym (p.1 ∙ ap Err p.2) ∙ is) in
+    let was = c.in_err-list.was ∙ ap Err same in
+    unlisted_stays (g.H.Host.state c.args.host.now) (g.H.Host.state c.publish_tables.new.host) (g.H.Host.state c.list.new.host) fault
+    (λ no. c.list.ensures.memory (was ∙ ap Err no)) (λ full. c.list.ensures.never_full (was ∙ ap Err full)) (λ file at changed. c.list.ensures.never_changed file at (was ∙ ap Err changed)) other
     (other_stays 0 c.in-Some.job.now.ids.job (no_registry (g.H.Host.state c.args.host.now) c.args.self.now c.args.word.now c.in-Some.job.now c.requires.sound (sym c.in-Some.ensures.value)) c.publish_tables.ensures.only tells)

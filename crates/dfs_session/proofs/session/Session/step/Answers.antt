@@ -23,8 +23,8 @@ returns-in-Ok-clause-logs g c = λ s tells stands. logs_stay (g.H.Host.state c.a
 pub returns-in-Err-clause-logs : goal.returns-in-Err-clause-logs
 returns-in-Err-clause-logs g c = λ s tells stands. logs_stay (g.H.Host.state c.args.host.now) c.args.self.now c.requires tells (meaning c.args.line.now) s (g.H.Host.state c.work.new.host) stands c.work.ensures.worked.writes
 
-pub returns-in-Err-clause-memory : goal.returns-in-Err-clause-memory
-returns-in-Err-clause-memory g c = λ tells is. c.work.ensures.memory tells (c.in-Err.is ∙ is)
+pub returns-in-Err-clause-faults : goal.returns-in-Err-clause-faults
+returns-in-Err-clause-faults g c = λ fault tells is other. c.work.ensures.faults fault tells (c.in-Err.is ∙ is) other
 
 pub returns-in-Err-clause-once : goal.returns-in-Err-clause-once
 returns-in-Err-clause-once g c = spent_once (g.H.Host.state c.args.host.now).reads (g.H.Host.state c.work.new.host).reads c.args.self.now c.work.new.self (names_by (meaning c.args.line.now)) c.work.ensures.once

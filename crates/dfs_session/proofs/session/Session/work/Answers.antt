@@ -40,14 +40,14 @@ returns-in-Err-NoMemory-clause-worked g c =
     let session = c.args.self.now in
     read_fault_worked {T = Vec ℕ} host host session (of_line c.args.line.now) NoMemory c.requires (reads_nothing host) (memory_cause (Err NoMemory) (none_yet host) refl) memory_not_full
 
-pub returns-in-Err-Long-clause-memory : goal.returns-in-Err-Long-clause-memory
-returns-in-Err-Long-clause-memory g c = λ tells is. file_idle 0 (g.H.Host.state c.args.host.now)
+pub returns-in-Err-Long-clause-faults : goal.returns-in-Err-Long-clause-faults
+returns-in-Err-Long-clause-faults g c = λ fault tells is other. file_idle 0 (g.H.Host.state c.args.host.now)
 
-pub returns-in-Err-Syntax-clause-memory : goal.returns-in-Err-Syntax-clause-memory
-returns-in-Err-Syntax-clause-memory g c = λ tells is. file_idle 0 (g.H.Host.state c.args.host.now)
+pub returns-in-Err-Syntax-clause-faults : goal.returns-in-Err-Syntax-clause-faults
+returns-in-Err-Syntax-clause-faults g c = λ fault tells is other. file_idle 0 (g.H.Host.state c.args.host.now)
 
-pub returns-in-Err-NoMemory-clause-memory : goal.returns-in-Err-NoMemory-clause-memory
-returns-in-Err-NoMemory-clause-memory g c = λ tells is. file_idle 0 (g.H.Host.state c.args.host.now)
+pub returns-in-Err-NoMemory-clause-faults : goal.returns-in-Err-NoMemory-clause-faults
+returns-in-Err-NoMemory-clause-faults g c = λ fault tells is other. file_idle 0 (g.H.Host.state c.args.host.now)
 
 pub returns-in-Err-Long-clause-looks : goal.returns-in-Err-Long-clause-looks
 returns-in-Err-Long-clause-looks g c = λ s tells stands is. reads_nothing (g.H.Host.state c.args.host.now)

@@ -24,3 +24,4 @@ pub mod Runs
 mod Single
 pub mod Alone
 pub mod Rooms
+mod Sealing

@@ -1,5 +1,5 @@
 -- Lines that change nothing: which replies are those of operations without a record.
-use Rattle.std.proofs.Common.{◌≡◌, Bool, true, false, List, [], ◌∷◌, Option, Some, None, Result, refl, sym, subst, cond, length}
+use Rattle.std.proofs.Common.{◌≡◌, ◌<◌, ap, arith, Bool, true, false, List, [], ◌∷◌, Option, Some, None, Result, refl, sym, subst, cond, length}
 use Rattle.std.specs.Prelude.{nat_lt, ◌+◌}
 use Rattle.std.specs.Ordering.{is_eq}
 use Rattle.dfs_host.specs.Host.{HostState, OnlyReads}
@@ -20,11 +20,22 @@ use Rattle.dfs_walk.specs.Walk.{Walk, no_entry, not_dir, at, walk}
 use Rattle.dfs_ops.specs.declared.Ids.{Ids}
 use Rattle.dfs_ops.specs.declared.OpReply.TheVariants.{Done, Full}
 use Rattle.dfs_ops.specs.Op.{Outcome, only, makes, where_it_ends, at_place, with_found, below_root, is_found, adds, put, del, unlinks_entry, rmdirs_entry, with_attributes, lists, replaces, moves, is_among, is_root, next_id, outcome}
+use Rattle.dfs_job.specs.declared.job.Job.{Job as LiveJob}
+use Rattle.dfs_job.specs.declared.settings.Settings.{Settings}
+use Rattle.dfs_job.specs.Job.{Job, does}
+use Rattle.dfs_job.specs.Stands.{JobIsFit, JobStands}
 use Rattle.dfs_session.specs.Session.{told}
 use Rattle.dfs_session.specs.Worked.{IsSeen, StaysInMemory}
 
 pub memory_reads : {T : Type 0} (result : Result T Fault) (before after : HostState) → StaysInMemory result before after → OnlyReads before after
 memory_reads result before after stays = subst (OnlyReads before) (sym stays.1) (reads_nothing before)
+
+-- the open layer of a live job has room where that of the job that it stands for has
+pub room_for : (host : HostState) (live : LiveJob) (j : Job) (op : Op) → JobIsFit live → JobStands host live j → length j.layers.open_ + length (does j op).records < j.settings.buffer → live.layers.buffer.made + length (does j op).records < live.layers.limit
+room_for host live j op fit stands fits = omega (arith, fits, stands.layers.open_.made, fit.buffer, ap (λ (s : Settings). s.buffer) stands.settings)
+
+pub none_open : (host : HostState) (live : LiveJob) (j : Job) → JobStands host live j → j.layers.open_ ≡ [] → live.layers.buffer.made ≡ 0
+none_open host live j stands none = omega (arith, stands.layers.open_.made, ap length none)
 
 -- an outcome whose reply only shows something has no record
 IsSilent : Outcome → Type 0

@@ -13,3 +13,4 @@ pub mod Taken
 pub mod Images
 pub mod Room
 pub mod Reads
+pub mod Sealing

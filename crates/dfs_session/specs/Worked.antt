@@ -1,5 +1,5 @@
 -- What the working of a line does.
-use Rattle.std.specs.Prelude.{◌≡◌, ◌≤◌, ◌<◌, ◌+◌, ◌⊎◌, ℕ, Bool, false, ◌||◌, nat_eq, nat_lt, IsTrue, List, map, Option, Some, None, Result, Ok, Err, OnOk, IfErr, IfOk, IsErrOf}
+use Rattle.std.specs.Prelude.{◌≡◌, ◌≤◌, ◌<◌, ◌+◌, ◌⊎◌, ℕ, Bool, false, ◌||◌, nat_eq, nat_lt, IsTrue, List, [], length, map, Option, Some, None, Result, Ok, Err, OnOk, IfErr, IfOk, IsErrOf, IsSomeAnd}
 use Rattle.std.specs.BTreeMap.{is_at}
 use Rattle.std.specs.List.{AllByRecursion, list_all, list_any}
 use Rattle.std.specs.Map.{lookup}
@@ -148,6 +148,24 @@ ChangesNone (End w) reply = IsError reply
 abbrev pub changes_none : Result Line LineFault → Reply → Type 0
 changes_none (Ok line) reply = ChangesNone line reply
 changes_none (Err fault) reply = IsError reply
+
+-- The records of the operation fit into the open layer of its job, or a flush finds none there: no layer closes.
+abbrev pub HasRoom : Session → Line → Type 0
+HasRoom s Nothing = ⊥
+HasRoom s (Set what value) = ⊥
+HasRoom s Snapshots = ⊥
+HasRoom s (Begin w names) = ⊥
+HasRoom s (Space w op) = IsSomeAnd (live_job s w) (λ j. length j.layers.open_ + length (does j op).records < j.settings.buffer)
+HasRoom s (Flush w) = IsSomeAnd (live_job s w) (λ j. j.layers.open_ ≡ [])
+HasRoom s (Plan w scope parts) = ⊥
+HasRoom s (Part w part) = ⊥
+HasRoom s (Stats w) = ⊥
+HasRoom s (Publish w name) = ⊥
+HasRoom s (End w) = ⊥
+
+abbrev pub has_room : Session → Result Line LineFault → Type 0
+has_room s (Ok line) = HasRoom s line
+has_room s (Err fault) = ⊥
 
 -- what the line asks for is in the session
 abbrev pub IsFromMemory : Line → Type 0

@@ -86,7 +86,7 @@ impl Session {
     ghost use Rattle.dfs_session.specs.Session.{Session as PlainSession, ends, flushes, live_job, merges, operates_for, plans, tells_snapshots, tells_stats};
     ghost use Rattle.dfs_session.specs.Sound.{IsSound, IsSoundInMemory, live_in};
     ghost use Rattle.dfs_session.specs.Stands.{Stands};
-    ghost use Rattle.dfs_session.specs.Worked.{IsRefusedAtOnce, IsSeen, IsWorked, PartPasses, StaysInMemory, IsWorkedInMemory, flushing, merging, operating, plain, planning, setting};
+    ghost use Rattle.dfs_session.specs.Worked.{HasRoom, IsRefusedAtOnce, IsSeen, IsWorked, PartPasses, StaysInMemory, IsWorkedInMemory, flushing, merging, operating, plain, planning, setting};
 
     /// Sets what jobs that begin later are given.
     pub(crate) fn set(&mut self, what: Setting, value: u64) -> Result<Vec<u8>, Fault>
@@ -121,6 +121,8 @@ impl Session {
         ensures worked { IsWorked (operating word.now op.now) (H.state host.old) (H.state host.new) self.old self.new result }
         ensures at_once { (s : PlainSession) → Told (H.state host.old) (Stands (H.state host.old) self.old s → IsRefusedAtOnce (Space word.now op.now) (operates_for s word.now op.now).reply → StaysInMemory result (H.state host.old) (H.state host.new)) }
         ensures looks { (s : PlainSession) → Told (H.state host.old) (Stands (H.state host.old) self.old s → IsSeen (operates_for s word.now op.now).reply → OnlyReads (H.state host.old) (H.state host.new)) }
+        ensures idle { (s : PlainSession) → Told (H.state host.old) (Stands (H.state host.old) self.old s → HasRoom s (Space word.now op.now) → H.state host.new ≡ H.state host.old) }
+        ensures reads { (H.state host.new).reads ≡ (H.state host.old).reads }
     {
         let Some(job) = self.jobs.get_mut(word) else {
             return text_of(self.alloc, &Reply::Error(Word::NoJob));
@@ -134,6 +136,8 @@ impl Session {
         requires { IsSound (H.state host.old) self.old }
         ensures worked { IsWorked (flushing word.now) (H.state host.old) (H.state host.new) self.old self.new result }
         ensures at_once { (s : PlainSession) → Told (H.state host.old) (Stands (H.state host.old) self.old s → IsRefusedAtOnce (Flush word.now) (flushes s word.now).reply → StaysInMemory result (H.state host.old) (H.state host.new)) }
+        ensures idle { (s : PlainSession) → Told (H.state host.old) (Stands (H.state host.old) self.old s → HasRoom s (Flush word.now) → H.state host.new ≡ H.state host.old) }
+        ensures reads { (H.state host.new).reads ≡ (H.state host.old).reads }
     {
         let Some(job) = self.jobs.get_mut(word) else {
             return text_of(self.alloc, &Reply::Error(Word::NoJob));
@@ -154,6 +158,7 @@ impl Session {
         requires parts { IfSome parts (λ n. IsTrue (is_parts n)) }
         ensures worked { IsWorked (planning word.now scope parts) (H.state host.old) (H.state host.new) self.old self.new result }
         ensures at_once { (s : PlainSession) → Told (H.state host.old) (Stands (H.state host.old) self.old s → IsRefusedAtOnce (Plan word.now scope parts) (plans s word.now scope parts).reply → StaysInMemory result (H.state host.old) (H.state host.new)) }
+        ensures reads { (H.state host.new).reads ≡ (H.state host.old).reads }
     {
         let Some(job) = self.jobs.get_mut(word) else {
             return text_of(self.alloc, &Reply::Error(Word::NoJob));
@@ -173,6 +178,7 @@ impl Session {
         ensures worked { IsWorked (merging word.now part) (H.state host.old) (H.state host.new) self.old self.new result }
         ensures too_many { (s : PlainSession) → Told (H.state host.old) (Stands (H.state host.old) self.old s → PartPasses (live_in self.old word.now) (live_job s word.now) part → OnOk result ⊥) }
         ensures at_once { (s : PlainSession) → Told (H.state host.old) (Stands (H.state host.old) self.old s → IsRefusedAtOnce (Part word.now part) (merges s word.now part).reply → StaysInMemory result (H.state host.old) (H.state host.new)) }
+        ensures reads { (H.state host.new).reads ≡ (H.state host.old).reads }
     {
         let Some(job) = self.jobs.get_mut(word) else {
             return text_of(self.alloc, &Reply::Error(Word::NoJob));

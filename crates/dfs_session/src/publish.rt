@@ -49,6 +49,7 @@ fn list<H: Host>(host: &mut H, registry: &mut Registry, listed: Listed) -> Resul
     // Each image since the start has the list before or the list with the entry.
     ensures images { Told (H.state host.old) (ChangesOnly 0 (HasOldOrNew registry.old.entries listed) (H.state host.old) (H.state host.new)) }
     ensures only { Only 0 (H.state host.old) (H.state host.new) }
+    ensures reads { (H.state host.new).reads ≡ (H.state host.old).reads }
     ensures memory { IsErrOf result Fault.NoMemory → H.state host.new ≡ H.state host.old }
     ensures never_full { IsErrOf result Fault.LogFull → ⊥ }
     ensures never_changed { (file at : ℕ) → IsErrOf result (Fault.Changed file at) → ⊥ }
@@ -65,13 +66,14 @@ fn list<H: Host>(host: &mut H, registry: &mut Registry, listed: Listed) -> Resul
 }
 
 impl Session {
-    ghost use Rattle.std.specs.Prelude.{◌≡◌, ◌≢◌, ◌<◌, false, length, IsErrOf, OnOk};
+    ghost use Rattle.std.specs.Prelude.{◌≡◌, ◌≢◌, ◌<◌, false, length, IsErrOf, IsSome, OnOk};
     ghost use Rattle.dfs_host.specs.declared.fault.Fault.{Fault as AFault};
     ghost use Rattle.dfs_host.specs.Host.{Told};
     ghost use Rattle.dfs_registry.specs.Body.{lists_name};
     ghost use Rattle.dfs_script.specs.declared.Line.TheVariants.{Publish};
     ghost use Rattle.dfs_session.specs.Session.{Session as PlainSession, live_job, publishes_for};
     ghost use Rattle.dfs_session.specs.Sound.{IsSound, listed_in, live_in};
+    ghost use Rattle.dfs_session.specs.Sealing.{AddsSealed};
     ghost use Rattle.dfs_session.specs.Stands.{Stands};
     ghost use Rattle.dfs_session.specs.Worked.{IsRefusedAtOnce, IsWorked, NameIsFree, PublicationPasses, StaysInMemory, publishing, publishing_anew};
     ghost use Rattle.dfs_session.specs.Writes.{FileStays};
@@ -88,6 +90,8 @@ impl Session {
         ensures too_many { (s : PlainSession) → Told (H.state host.old) (Stands (H.state host.old) self.old s → NameIsFree s word.now name × PublicationPasses (live_in self.old word.now) (live_job s word.now) → OnOk result ⊥) }
         ensures at_once { (s : PlainSession) → Told (H.state host.old) (Stands (H.state host.old) self.old s → IsRefusedAtOnce (Publish word.now name) (publishes_for s word.now name).reply → StaysInMemory result (H.state host.old) (H.state host.new)) }
         ensures faults { (fault : AFault) → Told (H.state host.old) (IsErrOf result fault → fault ≢ Fault.Disk → FileStays 0 (H.state host.old) (H.state host.new)) }
+        ensures sealed { (s : PlainSession) → Told (H.state host.old) (Stands (H.state host.old) self.old s → NameIsFree s word.now name → OnOk result (AddsSealed (H.state host.new) self.old self.new (live_in self.old word.now) (live_job s word.now))) }
+        ensures reads { (H.state host.new).reads ≡ (H.state host.old).reads }
     {
         if !self.jobs.contains_key(word) {
             return text_of(self.alloc, &Reply::Error(Word::NoJob));
@@ -115,6 +119,8 @@ impl Session {
         ensures worked { IsWorked (publishing_anew word.now name) (H.state host.old) (H.state host.new) self.old self.new result }
         ensures too_many { (s : PlainSession) → Told (H.state host.old) (Stands (H.state host.old) self.old s → PublicationPasses (live_in self.old word.now) (live_job s word.now) → OnOk result ⊥) }
         ensures faults { (fault : AFault) → Told (H.state host.old) (IsErrOf result fault → fault ≢ Fault.Disk → FileStays 0 (H.state host.old) (H.state host.new)) }
+        ensures sealed { (s : PlainSession) → Told (H.state host.old) (Stands (H.state host.old) self.old s → IsSome (live_job s word.now) → OnOk result (AddsSealed (H.state host.new) self.old self.new (live_in self.old word.now) (live_job s word.now))) }
+        ensures reads { (H.state host.new).reads ≡ (H.state host.old).reads }
     {
         let alloc = self.alloc;
         let Some(job) = self.jobs.get_mut(word) else {

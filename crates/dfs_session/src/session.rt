@@ -74,8 +74,9 @@ impl Session {
     ghost use Rattle.dfs_session.specs.Selected.{is_selected};
     ghost use Rattle.dfs_session.specs.Sound.{IsSound, jobs_of};
     ghost use Rattle.dfs_job.specs.Stands.{AreSettings};
+    ghost use Rattle.dfs_session.specs.Sealing.{SealsFor, seals_for};
     ghost use Rattle.dfs_session.specs.Stands.{Stands, LeavesValue};
-    ghost use Rattle.dfs_session.specs.Worked.{AreNamed, ChangesNone, OpensAs, IsFromMemory, IsPast, IsRefusedAtOnce, IsShort, IsWorked, StaysInMemory, changes_none, from_memory, has_refused, job_by, log_by, many_by, names_by, names_of, of_command, of_line, passes_by, passes_of, refused_at_once, settings_by, writes_by};
+    ghost use Rattle.dfs_session.specs.Worked.{AreNamed, ChangesNone, HasRoom, OpensAs, IsFromMemory, IsPast, IsRefusedAtOnce, IsShort, IsWorked, StaysInMemory, changes_none, from_memory, has_refused, has_room, job_by, log_by, many_by, names_by, names_of, of_command, of_line, passes_by, passes_of, refused_at_once, settings_by, writes_by};
     ghost use Rattle.dfs_session.specs.Writes.{FileStays, LogsStay, OnlyThese};
 
     /// Opens the registry of a host. Jobs that begin are given the settings.
@@ -140,6 +141,8 @@ impl Session {
         // publications before the line stay.
         ensures writes { OnlyThese (writes_by (meaning line.now) self.old) (H.state host.old) (H.state host.new) }
         ensures logs { (s : PlainSession) → Told (H.state host.old) (Stands (H.state host.old) self.old s → LogsStay s.registry (H.state host.old) (H.state host.new)) }
+        // A publication seals the layers of its job as their run by its manifest, with which its log ends, and writes nothing else there.
+        ensures sealed { (s : PlainSession) → Told (H.state host.old) (Stands (H.state host.old) self.old s → OnOk result (seals_for (meaning line.now) s (H.state host.new) self.old self.new)) }
         // No fault but a failed device call comes once the registry is touched: a line that ends with one leaves its file as it was.
         ensures faults { (fault : AFault) → Told (H.state host.old) (IsErrOf result fault → fault ≢ Fault.Disk → FileStays 0 (H.state host.old) (H.state host.new)) }
         ensures cause { HasFaultCause (H.state host.old) (H.state host.new) result }
@@ -152,6 +155,8 @@ impl Session {
         ensures at_once { (s : PlainSession) → Told (H.state host.old) (Stands (H.state host.old) self.old s → refused_at_once (meaning line.now) (step_of s line.now).reply → StaysInMemory result (H.state host.old) (H.state host.new)) }
         // A line that is refused, a damaged snapshot among the causes, and one that only looks at what its job sees write nothing.
         ensures looks { (s : PlainSession) → Told (H.state host.old) (Stands (H.state host.old) self.old s → changes_none (meaning line.now) (step_of s line.now).reply → OnlyReads (H.state host.old) (H.state host.new)) }
+        // An operation whose records fit into the open layer of its job, and a flush that finds none there, make no call on the host.
+        ensures idle { (s : PlainSession) → Told (H.state host.old) (Stands (H.state host.old) self.old s → has_room s (meaning line.now) → H.state host.new ≡ H.state host.old) }
         // A line that asks for nothing but what the session has meets no other fault on any host, and makes no call.
         ensures in_memory { from_memory (meaning line.now) → StaysInMemory result (H.state host.old) (H.state host.new) }
         ensures full { IsErrOf result Fault.LogFull → IsTrue (log_by (meaning line.now) (jobs_of self.new)) ⊎ IsTrue (many_by (meaning line.now) self.old) }
@@ -160,6 +165,8 @@ impl Session {
         ensures short { (s : PlainSession) → Told (H.state host.old) (Stands (H.state host.old) self.old s → IsErrOf result Fault.LogFull → IsShort (job_by s (meaning line.now))) }
         // Each live job keeps the names of its begin, as long as it lives.
         ensures names { OnOk result (AreNamed (names_by (meaning line.now)) self.old self.new) }
+        // No line but a begin reads.
+        ensures unread { names_by (meaning line.now) ≡ None → (H.state host.new).reads ≡ (H.state host.old).reads }
         // A begin reads a change set only the first time that its name comes, and only where no live job selected it.
         ensures once { IfSome (names_by (meaning line.now)) (ReadsOnce (H.state host.old).reads (H.state host.new).reads self.old self.new) }
         // A begin reads nothing where each of its names stands in the begin of a live job.
@@ -184,6 +191,9 @@ impl Session {
         ensures at_once { (s : PlainSession) → Told (H.state host.old) (Stands (H.state host.old) self.old s → refused_at_once (meaning line.now) (step_of s line.now).reply → StaysInMemory result (H.state host.old) (H.state host.new)) }
         ensures looks { (s : PlainSession) → Told (H.state host.old) (Stands (H.state host.old) self.old s → changes_none (meaning line.now) (step_of s line.now).reply → OnlyReads (H.state host.old) (H.state host.new)) }
         ensures in_memory { from_memory (meaning line.now) → StaysInMemory result (H.state host.old) (H.state host.new) }
+        ensures idle { (s : PlainSession) → Told (H.state host.old) (Stands (H.state host.old) self.old s → has_room s (meaning line.now) → H.state host.new ≡ H.state host.old) }
+        ensures unread { names_by (meaning line.now) ≡ None → (H.state host.new).reads ≡ (H.state host.old).reads }
+        ensures sealed { (s : PlainSession) → Told (H.state host.old) (Stands (H.state host.old) self.old s → OnOk result (seals_for (meaning line.now) s (H.state host.new) self.old self.new)) }
         ensures faults { (fault : AFault) → Told (H.state host.old) (IsErrOf result fault → fault ≢ Fault.Disk → FileStays 0 (H.state host.old) (H.state host.new)) }
     {
         match read_line(self.alloc, line) {
@@ -204,6 +214,9 @@ impl Session {
         ensures at_once { (s : PlainSession) → Told (H.state host.old) (Stands (H.state host.old) self.old s → IsRefusedAtOnce (line) (after_command s line).reply → StaysInMemory result (H.state host.old) (H.state host.new)) }
         ensures looks { (s : PlainSession) → Told (H.state host.old) (Stands (H.state host.old) self.old s → ChangesNone line (after_command s line).reply → OnlyReads (H.state host.old) (H.state host.new)) }
         ensures in_memory { IsFromMemory line → StaysInMemory result (H.state host.old) (H.state host.new) }
+        ensures idle { (s : PlainSession) → Told (H.state host.old) (Stands (H.state host.old) self.old s → HasRoom s line → H.state host.new ≡ H.state host.old) }
+        ensures unread { names_of line ≡ None → (H.state host.new).reads ≡ (H.state host.old).reads }
+        ensures sealed { (s : PlainSession) → Told (H.state host.old) (Stands (H.state host.old) self.old s → OnOk result (SealsFor line s (H.state host.new) self.old self.new)) }
         ensures faults { (fault : AFault) → Told (H.state host.old) (IsErrOf result fault → fault ≢ Fault.Disk → FileStays 0 (H.state host.old) (H.state host.new)) }
     {
         match line {

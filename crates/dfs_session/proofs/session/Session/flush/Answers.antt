@@ -2,6 +2,8 @@ use Rattle.std.proofs.Common.{inl, ◌≡◌, ◌∙◌, ℕ, Option, Result, Er
 use Rattle.std.proofs.lemmas.Result.{err_from_is_err_and}
 use Rattle.std.specs.BTreeMap.{BTreeMap}
 use Rattle.std.specs.Global.{Vec}
+use Rattle.std.specs.Prelude.{[], IsSomeAnd}
+use Rattle.dfs_session.proofs.Looking.{none_open}
 use Rattle.dfs_host.specs.Fault.{HasFaultCause}
 use Rattle.dfs_host.specs.declared.fault.Fault.{Fault}
 use Rattle.dfs_host.specs.declared.fault.Fault.TheVariants.{Disk, LogFull}
@@ -96,3 +98,20 @@ returns-clause-at_once g c = λ s tells stands is.
     let found = sym c.in-Some.ensures.value in
     let f = found_job before session s w live stands found in
     absurd (subst IsError (ap (λ (o : Option Job). (of_live o s (λ j. record { session = with_job s w (after_flush j); reply = OkReply })).reply) f.found) is)
+
+pub returns-in_default-clause-idle : goal.returns-in_default-clause-idle
+returns-in_default-clause-idle g c = λ s tells stands fits. refl
+
+pub returns-in_err-flush-clause-idle : goal.returns-in_err-flush-clause-idle
+returns-in_err-flush-clause-idle g c = λ s tells stands fits.
+    let before = g.H.Host.state c.args.host.now in
+    let live = c.in-Some.job.now in
+    let f = found_job before c.args.self.now s c.args.word.now live stands (sym c.in-Some.ensures.value) in
+    (c.flush.ensures.idle (none_open before live f.plain f.is (subst (λ (o : Option Job). IsSomeAnd o (λ j. j.layers.open_ ≡ [])) f.found fits))).idle
+
+pub returns-clause-idle : goal.returns-clause-idle
+returns-clause-idle g c = λ s tells stands fits.
+    let before = g.H.Host.state c.args.host.now in
+    let live = c.in-Some.job.now in
+    let f = found_job before c.args.self.now s c.args.word.now live stands (sym c.in-Some.ensures.value) in
+    (c.flush.ensures.idle (none_open before live f.plain f.is (subst (λ (o : Option Job). IsSomeAnd o (λ j. j.layers.open_ ≡ [])) f.found fits))).idle

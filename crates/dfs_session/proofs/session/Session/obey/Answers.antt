@@ -1,4 +1,4 @@
-use Rattle.std.proofs.Common.{refl, sym, subst}
+use Rattle.std.proofs.Common.{◌≡◌, refl, sym, subst}
 use Rattle.dfs_reply.specs.declared.Reply.TheVariants.{Nothing as NoReply}
 use Rattle.dfs_script.specs.declared.Line.{Line}
 use Rattle.dfs_script.specs.declared.Line.TheVariants.{Nothing}
@@ -7,8 +7,12 @@ use Rattle.dfs_session.proofs.Working.{stays_in_memory}
 use Rattle.dfs_session.proofs.Writing.{begin_leaves_registry, file_idle, log_leaves_registry}
 use Rattle.dfs_host.proofs.Moments.{reads_nothing}
 use Rattle.dfs_session.specs.Session.{after_command}
-use Rattle.dfs_session.specs.Worked.{ChangesNone}
+use Rattle.dfs_session.specs.Worked.{ChangesNone, HasRoom, names_of}
 use Rattle.dfs_session.proofs.Looking.{memory_reads}
+use Rattle.dfs_session.proofs.Working.{on_ok}
+use Rattle.dfs_session.proofs.Sealing.{is_some_names, ok_later}
+use Rattle.dfs_session.specs.Sealing.{SealsFor}
+use Rattle.std.specs.Prelude.{None, OnOk}
 use Rattle.dfs_session.proofs.session.Session.obey.Goals as goal
 
 pub returns-in-Nothing-clause-worked : goal.returns-in-Nothing-clause-worked
@@ -106,3 +110,58 @@ returns-in-Begin-clause-looks g c = λ s tells stands is. c.begin.ensures.looks 
 
 pub returns-in-Space-clause-looks : goal.returns-in-Space-clause-looks
 returns-in-Space-clause-looks g c = λ s tells stands is. c.operate.ensures.looks s tells stands (subst (λ (line : Line). ChangesNone line (after_command s line).reply) c.in-Space.is is)
+
+pub returns-in-Nothing-clause-sealed : goal.returns-in-Nothing-clause-sealed
+returns-in-Nothing-clause-sealed g c = λ s tells stands. on_ok c.text_of.result _ (subst (λ (line : Line). SealsFor line s (g.H.Host.state c.args.host.now) c.args.self.now c.args.self.now) (sym c.in-Nothing.is) tt)
+
+pub returns-in-Set-clause-sealed : goal.returns-in-Set-clause-sealed
+returns-in-Set-clause-sealed g c = λ s tells stands. on_ok c.set.result _ (subst (λ (line : Line). SealsFor line s (g.H.Host.state c.args.host.now) c.args.self.now c.set.new.self) (sym c.in-Set.is) tt)
+
+pub returns-in-Snapshots-clause-sealed : goal.returns-in-Snapshots-clause-sealed
+returns-in-Snapshots-clause-sealed g c = λ s tells stands. on_ok c.tell_snapshots.result _ (subst (λ (line : Line). SealsFor line s (g.H.Host.state c.args.host.now) c.args.self.now c.args.self.now) (sym c.in-Snapshots.is) tt)
+
+pub returns-in-Stats-clause-sealed : goal.returns-in-Stats-clause-sealed
+returns-in-Stats-clause-sealed g c = λ s tells stands. on_ok c.tell_stats.result _ (subst (λ (line : Line). SealsFor line s (g.H.Host.state c.args.host.now) c.args.self.now c.args.self.now) (sym c.in-Stats.is) tt)
+
+pub returns-in-End-clause-sealed : goal.returns-in-End-clause-sealed
+returns-in-End-clause-sealed g c = λ s tells stands. on_ok c.end.result _ (subst (λ (line : Line). SealsFor line s (g.H.Host.state c.args.host.now) c.args.self.now c.end.new.self) (sym c.in-End.is) tt)
+
+pub returns-in-Begin-clause-sealed : goal.returns-in-Begin-clause-sealed
+returns-in-Begin-clause-sealed g c = λ s tells stands. on_ok c.begin.result _ (subst (λ (line : Line). SealsFor line s (g.H.Host.state c.begin.new.host) c.args.self.now c.begin.new.self) (sym c.in-Begin.is) tt)
+
+pub returns-in-Space-clause-sealed : goal.returns-in-Space-clause-sealed
+returns-in-Space-clause-sealed g c = λ s tells stands. on_ok c.operate.result _ (subst (λ (line : Line). SealsFor line s (g.H.Host.state c.operate.new.host) c.args.self.now c.operate.new.self) (sym c.in-Space.is) tt)
+
+pub returns-in-Flush-clause-sealed : goal.returns-in-Flush-clause-sealed
+returns-in-Flush-clause-sealed g c = λ s tells stands. on_ok c.flush.result _ (subst (λ (line : Line). SealsFor line s (g.H.Host.state c.flush.new.host) c.args.self.now c.flush.new.self) (sym c.in-Flush.is) tt)
+
+pub returns-in-Plan-clause-sealed : goal.returns-in-Plan-clause-sealed
+returns-in-Plan-clause-sealed g c = λ s tells stands. on_ok c.plan.result _ (subst (λ (line : Line). SealsFor line s (g.H.Host.state c.plan.new.host) c.args.self.now c.plan.new.self) (sym c.in-Plan.is) tt)
+
+pub returns-in-Part-clause-sealed : goal.returns-in-Part-clause-sealed
+returns-in-Part-clause-sealed g c = λ s tells stands. on_ok c.part.result _ (subst (λ (line : Line). SealsFor line s (g.H.Host.state c.part.new.host) c.args.self.now c.part.new.self) (sym c.in-Part.is) tt)
+
+pub returns-in-Publish-clause-sealed : goal.returns-in-Publish-clause-sealed
+returns-in-Publish-clause-sealed g c = λ s tells stands.
+    subst (λ (line : Line). OnOk c.publish.result (SealsFor line s (g.H.Host.state c.publish.new.host) c.args.self.now c.publish.new.self)) (sym c.in-Publish.is) (ok_later _ c.publish.result (c.publish.ensures.sealed s tells stands))
+
+pub returns-in-Begin-clause-idle : goal.returns-in-Begin-clause-idle
+returns-in-Begin-clause-idle g c = λ s tells stands fits. absurd (subst (HasRoom s) c.in-Begin.is fits)
+
+pub returns-in-Space-clause-idle : goal.returns-in-Space-clause-idle
+returns-in-Space-clause-idle g c = λ s tells stands fits. c.operate.ensures.idle s tells stands (subst (HasRoom s) c.in-Space.is fits)
+
+pub returns-in-Flush-clause-idle : goal.returns-in-Flush-clause-idle
+returns-in-Flush-clause-idle g c = λ s tells stands fits. c.flush.ensures.idle s tells stands (subst (HasRoom s) c.in-Flush.is fits)
+
+pub returns-in-Plan-clause-idle : goal.returns-in-Plan-clause-idle
+returns-in-Plan-clause-idle g c = λ s tells stands fits. absurd (subst (HasRoom s) c.in-Plan.is fits)
+
+pub returns-in-Part-clause-idle : goal.returns-in-Part-clause-idle
+returns-in-Part-clause-idle g c = λ s tells stands fits. absurd (subst (HasRoom s) c.in-Part.is fits)
+
+pub returns-in-Publish-clause-idle : goal.returns-in-Publish-clause-idle
+returns-in-Publish-clause-idle g c = λ s tells stands fits. absurd (subst (HasRoom s) c.in-Publish.is fits)
+
+pub returns-in-Begin-clause-unread : goal.returns-in-Begin-clause-unread
+returns-in-Begin-clause-unread g c = λ none. absurd (is_some_names (subst (λ (line : Line). names_of line ≡ None) c.in-Begin.is none))

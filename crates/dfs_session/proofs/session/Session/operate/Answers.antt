@@ -2,7 +2,7 @@ use Rattle.std.proofs.Common.{inl, ◌≡◌, ◌∙◌, ℕ, Option, Result, Er
 use Rattle.std.proofs.lemmas.Result.{err_from_is_err_and}
 use Rattle.std.specs.BTreeMap.{BTreeMap}
 use Rattle.std.specs.Global.{Vec}
-use Rattle.std.specs.Prelude.{IfOk}
+use Rattle.std.specs.Prelude.{◌<◌, ◌+◌, IfOk, IsSomeAnd}
 use Rattle.dfs_host.specs.Fault.{HasFaultCause}
 use Rattle.dfs_host.specs.declared.fault.Fault.{Fault}
 use Rattle.dfs_host.specs.declared.fault.Fault.TheVariants.{Disk, LogFull}
@@ -25,7 +25,8 @@ use Rattle.dfs_session.proofs.Writing.{own_written}
 use Rattle.dfs_host.proofs.Moments.{reads_nothing}
 use Rattle.dfs_job.specs.Job.{namespace_of}
 use Rattle.dfs_session.specs.Worked.{IsSeen}
-use Rattle.dfs_session.proofs.Looking.{none_made}
+use Rattle.dfs_session.proofs.Looking.{none_made, room_for}
+use Rattle.dfs_host.specs.Host.{OnlyReads}
 use Rattle.dfs_session.proofs.session.Session.operate.Goals as goal
 
 pub op-requires-clause-sound : goal.op-requires-clause-sound
@@ -123,7 +124,7 @@ returns-in_err-answer-clause-looks g c = λ s tells stands is.
     let f = found_job before session s w live stands (sym c.in-Some.ensures.value) in
     let op = c.args.op.now in
     let none = none_made (namespace_of f.plain) f.plain.ids op (subst (λ (o : Option Job). IsSeen (of_live o s (λ j. operates s w j (does j op))).reply) f.found is) in
-    (c.op.ensures.room f.plain tells f.is (omega (arith, ap length none, (was_live before before session w live c.requires.sound (sym c.in-Some.ensures.value)).fit.layers.room))).reads
+    subst (OnlyReads before) (sym (c.op.ensures.room f.plain tells f.is (omega (arith, ap length none, (was_live before before session w live c.requires.sound (sym c.in-Some.ensures.value)).fit.layers.room))).idle) (reads_nothing before)
 
 pub returns-clause-looks : goal.returns-clause-looks
 returns-clause-looks g c = λ s tells stands is.
@@ -134,4 +135,27 @@ returns-clause-looks g c = λ s tells stands is.
     let f = found_job before session s w live stands (sym c.in-Some.ensures.value) in
     let op = c.args.op.now in
     let none = none_made (namespace_of f.plain) f.plain.ids op (subst (λ (o : Option Job). IsSeen (of_live o s (λ j. operates s w j (does j op))).reply) f.found is) in
-    (c.op.ensures.room f.plain tells f.is (omega (arith, ap length none, (was_live before before session w live c.requires.sound (sym c.in-Some.ensures.value)).fit.layers.room))).reads
+    subst (OnlyReads before) (sym (c.op.ensures.room f.plain tells f.is (omega (arith, ap length none, (was_live before before session w live c.requires.sound (sym c.in-Some.ensures.value)).fit.layers.room))).idle) (reads_nothing before)
+
+pub returns-in_default-clause-idle : goal.returns-in_default-clause-idle
+returns-in_default-clause-idle g c = λ s tells stands fits. refl
+
+pub returns-in_err-answer-clause-idle : goal.returns-in_err-answer-clause-idle
+returns-in_err-answer-clause-idle g c = λ s tells stands fits.
+    let before = g.H.Host.state c.args.host.now in
+    let session = c.args.self.now in
+    let w = c.args.word.now in
+    let live = c.in-Some.job.now in
+    let f = found_job before session s w live stands (sym c.in-Some.ensures.value) in
+    (c.op.ensures.room f.plain tells f.is (room_for before live f.plain c.args.op.now (was_live before before session w live c.requires.sound (sym c.in-Some.ensures.value)).fit f.is
+    (subst (λ (o : Option Job). IsSomeAnd o (λ j. length j.layers.open_ + length (does j c.args.op.now).records < j.settings.buffer)) f.found fits))).idle
+
+pub returns-clause-idle : goal.returns-clause-idle
+returns-clause-idle g c = λ s tells stands fits.
+    let before = g.H.Host.state c.args.host.now in
+    let session = c.args.self.now in
+    let w = c.args.word.now in
+    let live = c.in-Some.job.now in
+    let f = found_job before session s w live stands (sym c.in-Some.ensures.value) in
+    (c.op.ensures.room f.plain tells f.is (room_for before live f.plain c.args.op.now (was_live before before session w live c.requires.sound (sym c.in-Some.ensures.value)).fit f.is
+    (subst (λ (o : Option Job). IsSomeAnd o (λ j. length j.layers.open_ + length (does j c.args.op.now).records < j.settings.buffer)) f.found fits))).idle

@@ -1,6 +1,6 @@
 use Rattle.std.proofs.Common.{◌≡◌, ◌∙◌, true, false, Option, length, refl, sym, ap, subst, arith}
 use Rattle.std.proofs.lemmas.Bool.{le-leb, lt-leb}
-use Rattle.std.specs.Prelude.{nat_le, is_some}
+use Rattle.std.specs.Prelude.{IsSome, nat_le, is_some}
 use Rattle.dfs_host.proofs.Causes.{none_yet}
 use Rattle.dfs_reply.specs.declared.Reply.TheVariants.{Error}
 use Rattle.dfs_reply.specs.declared.Word.TheVariants as word
@@ -128,3 +128,38 @@ returns-then-is_some-clause-faults g c = λ fault tells is other. file_idle 0 (g
 
 pub returns-then-count-ge-MOST_PUBLICATIONS-clause-faults : goal.returns-then-count-ge-MOST_PUBLICATIONS-clause-faults
 returns-then-count-ge-MOST_PUBLICATIONS-clause-faults g c = λ fault tells is other. file_idle 0 (g.H.Host.state c.args.host.now)
+
+pub returns-then-not-contains_key-clause-sealed : goal.returns-then-not-contains_key-clause-sealed
+returns-then-not-contains_key-clause-sealed g c = λ s tells stands free.
+    let session = c.args.self.now in
+    let w = c.args.word.now in
+    absurd (free (subst (λ (o : Option Job). IsError (of_live o s (λ j. publishes s w j c.args.name)).reply) (sym (no_job (g.H.Host.state c.args.host.now) session s w stands (none_of (live_in session w) (sym c.if-not-contains_key.ensures)))) tt))
+
+pub returns-then-is_some-clause-sealed : goal.returns-then-is_some-clause-sealed
+returns-then-is_some-clause-sealed g c = λ s tells stands free.
+    let session = c.args.self.now in
+    let host = g.H.Host.state c.args.host.now in
+    let w = c.args.word.now in
+    let name = c.args.name in
+    let live = some_of (live_in session w) (sym c.if-not-contains_key.ensures) in
+    let taken : true ≡ is_listed (listed_in session) name = c.if-is_some.ensures ∙ sym (lent_some c.find.result) ∙ ap is_some c.find.ensures in
+    absurd (free (subst (λ (t : Step). IsError t.reply) (sym (publishes_as host session s w live.0 name stands (found_job host session s w live.0 stands live.1) true (nat_le 4096 (length (listed_in session))) taken refl)) tt))
+
+pub returns-then-count-ge-MOST_PUBLICATIONS-clause-sealed : goal.returns-then-count-ge-MOST_PUBLICATIONS-clause-sealed
+returns-then-count-ge-MOST_PUBLICATIONS-clause-sealed g c = λ s tells stands free.
+    let session = c.args.self.now in
+    let host = g.H.Host.state c.args.host.now in
+    let w = c.args.word.now in
+    let name = c.args.name in
+    let live = some_of (live_in session w) (sym c.if-not-contains_key.ensures) in
+    let anew : false ≡ is_listed (listed_in session) name = c.if-is_some.ensures ∙ sym (lent_some c.find.result) ∙ ap is_some c.find.ensures in
+    let full : true ≡ nat_le 4096 (length (listed_in session)) = sym (le-leb 4096 (length (listed_in session)) (omega (arith, c.if-count-ge-MOST_PUBLICATIONS.true, c.count.ensures.count))) in
+    absurd (free (subst (λ (t : Step). IsError t.reply) (sym (publishes_as host session s w live.0 name stands (found_job host session s w live.0 stands live.1) false true anew full)) tt))
+
+pub returns-clause-sealed : goal.returns-clause-sealed
+returns-clause-sealed g c = λ s tells stands free.
+    let session = c.args.self.now in
+    let host = g.H.Host.state c.args.host.now in
+    let w = c.args.word.now in
+    let live = some_of (live_in session w) (sym c.if-not-contains_key.ensures) in
+    c.publish_anew.ensures.sealed s tells stands (subst (λ (o : Option Job). IsSome o) (sym (found_job host session s w live.0 stands live.1).found) refl)

@@ -1,7 +1,9 @@
-use Rattle.std.proofs.Common.{◌≡◌, ◌∙◌, ℕ, Option, Result, Err, refl, sym, ap, subst}
+use Rattle.std.proofs.Common.{◌≡◌, ◌≢◌, ◌∙◌, ℕ, Option, Result, Err, refl, sym, ap, subst}
 use Rattle.std.proofs.lemmas.Result.{err_from_is_err_and}
 use Rattle.std.specs.BTreeMap.{BTreeMap, is_at}
 use Rattle.std.specs.Global.{Vec}
+use Rattle.std.specs.Prelude.{IsSome}
+use Rattle.dfs_session.proofs.Sealing.{adds_sealed}
 use Rattle.std.specs.Map.{remove_entry}
 use Rattle.dfs_host.specs.Fault.{HasFaultCause, NoFault}
 use Rattle.dfs_host.specs.declared.fault.Fault.{Fault}
@@ -178,3 +180,23 @@ returns-in_err-list-clause-faults g c = λ fault tells is other.
     unlisted_stays (g.H.Host.state c.args.host.now) (g.H.Host.state c.publish_tables.new.host) (g.H.Host.state c.list.new.host) fault
     (λ no. c.list.ensures.memory (was ∙ ap Err no)) (λ full. c.list.ensures.never_full (was ∙ ap Err full)) (λ file at changed. c.list.ensures.never_changed file at (was ∙ ap Err changed)) other
     (other_stays 0 c.in-Some.job.now.ids.job (no_registry (g.H.Host.state c.args.host.now) c.args.self.now c.args.word.now c.in-Some.job.now c.requires.sound (sym c.in-Some.ensures.value)) c.publish_tables.ensures.only tells)
+
+pub returns-in_default-clause-sealed : goal.returns-in_default-clause-sealed
+returns-in_default-clause-sealed g c = λ s tells stands some.
+    absurd (cc (some, no_job (g.H.Host.state c.args.host.now) c.args.self.now s c.args.word.now stands (sym c.in_default.ensures.value)))
+
+pub returns-clause-sealed : goal.returns-clause-sealed
+returns-clause-sealed g c = λ s tells stands some.
+    let session = c.args.self.now in
+    let w = c.args.word.now in
+    let before = g.H.Host.state c.args.host.now in
+    let mid = g.H.Host.state c.publish_tables.new.host in
+    let live = c.in-Some.job.now in
+    let found = sym c.in-Some.ensures.value in
+    let sealed = c.in_ok-sealed.sealed in
+    let of = c.in_ok-sealed.ensures in
+    let f = found_job before session s w live stands found in
+    let listed : Listed = record { name = c.args.name; job = live.ids.job; at = sealed.at; len = sealed.len; count = sealed.count } in
+    let apart : live.ids.job ≢ 0 = λ same. absurd (no_registry before session w live c.requires.sound found (sym same)) in
+    adds_sealed before mid (g.H.Host.state c.list.new.host) session _ s w live f found apart (of.cause.tells ∙ tells) c.list.ensures.only c.publish_tables.new.self.layers listed refl c.in_ok-list.ensures.listed (of.seals tells)
+    (of.tables f.plain tells f.is) (of.file_ends tells)

@@ -1,6 +1,6 @@
 -- What stands at a gate, read from a piece of 93 bytes.
 use Rattle.std.proofs.Common.{◌≡◌, ℕ, suc, ◌+◌, ◌-◌, ◌<◌, ◌≤◌, min, Bool, true, false, cond, ◌&&◌, List, [], ◌∷◌, ◌++◌, length, take, drop, refl, sym, ◌∙◌, ap, subst, arith, length-take, length-drop}
-use Rattle.std.specs.Prelude.{slice_index, Some, None, ◌==◌, nat_lt}
+use Rattle.std.specs.Prelude.{slice_index, Some, None, is_some, Result, Ok, Err, OnErr, ◌==◌, nat_lt}
 use Rattle.std.proofs.lemmas.List.{take_all, take_rest, take-take, drop-take, take_at, take_min, drop_more}
 use Rattle.std.proofs.lemmas.Bool.{and_right, and_parts, ltb-true, eqb-true, lt-ltb, le-ltb, cond-true, cond-false}
 use Rattle.dfs_registry.specs.declared.listed.Listed.{Listed}
@@ -8,7 +8,7 @@ use Rattle.dfs_registry.specs.declared.gate.Gate.{Gate}
 use Rattle.dfs_registry.specs.declared.gate.Gate.TheVariants.{Closed, Broken, Open}
 use Rattle.dfs_registry.specs.Body.{body, fields, has_body, read_body}
 use Rattle.dfs_registry.specs.Reading.{is_open, step, AreBytes, IsBody}
-use Rattle.dfs_registry.specs.Opening.{IsGate, FitsBody, IsOpened, IsBroken}
+use Rattle.dfs_registry.specs.Opening.{IsGate, FitsBody, IsOpened, IsBroken, HoldsBody}
 use Rattle.dfs_registry.proofs.Bodies.{short_name}
 use Rattle.dfs_registry.proofs.Parsing.{Whole, whole, named, spelled_by, is_body}
 
@@ -43,6 +43,10 @@ module _ (p : List ℕ) (short : length p ≤ 93) where
   unfolding read_body
   broken opened none = record { opened = opened; read = cond-false _ _ _ (ap has_body (sym rest_is) ∙ none) }
 
+  pub readable : is_open p ≡ true → has_body (take (length p - 1) (drop 1 p)) ≡ true → HoldsBody p
+  unfolding read_body
+  readable opened has = record { opened = opened; read = ap is_some (cond-true _ _ _ (ap has_body (sym rest_is) ∙ has)) }
+
   pub opened : AreBytes (take (length p - 1) (drop 1 p)) → is_open p ≡ true → has_body (take (length p - 1) (drop 1 p)) ≡ true → (b : Listed) → b ≡ fields (take (length p - 1) (drop 1 p)) → IsOpened p b
   unfolding read_body
   opened bytes open_gate has b is = record {
@@ -73,6 +77,11 @@ module _ (p : List ℕ) (short : length p ≤ 93) where
           stepped : (n m x : ℕ) (l : List ℕ) → m ≡ 1 + n → take m (x ∷ l) ≡ x ∷ take n l
           stepped n m x l is = ap (λ k. take k (x ∷ l)) (let more : m ≡ suc n = omega arith in more)
 
+-- a fact that holds anyhow
+pub on_error : {T E P : Type 0} (r : Result T E) → P → OnErr r P
+on_error (Ok x) p = tt
+on_error (Err e) p = p
+
 pub fits : (l : List ℕ) → AreBytes l → has_body l ≡ true → (b : Listed) → b ≡ fields l → IsBody b
 fits l bytes has b is = subst IsBody (sym is) (is_body l bytes (whole l has))
 
@@ -95,6 +104,10 @@ of_whole l (Open b) is fit = record {
   read = sym (read_body_take l) ∙ is.read;
   spelled = sym (take-take (step b) 93 l (omega (arith, short_name b fit.listable))) ∙ is.spelled;
 }
+
+-- a body that a piece holds is read in the whole
+pub held_by_whole : (l : List ℕ) → HoldsBody (take 93 l) → HoldsBody l
+held_by_whole l held = record { opened = sym (is_open_take l) ∙ held.opened; read = ap is_some (sym (read_body_take l)) ∙ held.read }
 
 -- the part of the buffer that was filled
 pub filled : (file out old : List ℕ) (at count : ℕ) → length old ≡ 93 → count ≡ min (length old) (length file - at) → out ≡ take count (drop at file) ++ drop count old → take count out ≡ take 93 (drop at file)

@@ -1,5 +1,5 @@
 -- What opening the registry answers.
-use Rattle.std.specs.Prelude.{◌≡◌, ◌≤◌, ◌<◌, ℕ, true, false, List, ◌∷◌, ◌++◌, length, take, drop, Some, None, Result, Ok, Err, IsErrOf}
+use Rattle.std.specs.Prelude.{◌≡◌, ◌≤◌, ◌<◌, ℕ, true, false, List, ◌∷◌, ◌++◌, length, take, drop, Some, None, IsSome, Result, Ok, Err, IsErrOf}
 use Rattle.dfs_host.specs.Counts.{Rose}
 use Rattle.dfs_host.specs.Host.{HostState, now}
 use Rattle.dfs_registry.specs.declared.listed.Listed.{Listed}
@@ -53,6 +53,16 @@ pub record EndsBehind (bs : List Listed) (bytes : List ℕ) : Type 0 where
 pub record IsMarked (bytes : List ℕ) : Type 0 where
   pub long : 9 < length bytes
   pub header : take 8 bytes ≡ header
+
+-- an open gate at the front, and a body that can be read
+pub record HoldsBody (bytes : List ℕ) : Type 0 where
+  pub opened : is_open bytes ≡ true
+  pub read : IsSome (read_body (drop 1 bytes))
+
+-- a longer file with the header, whose first gate is open before a body that can be read
+pub record HasPublication (bytes : List ℕ) : Type 0 where
+  pub marked : IsMarked bytes
+  pub first : HoldsBody (drop 8 bytes)
 
 -- the answer of an opening, by what the file stands for
 abbrev pub IsAnswer : Reading → Result RegistryState RegFault → Type 0

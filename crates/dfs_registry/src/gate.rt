@@ -1,7 +1,7 @@
-ghost use Rattle.std.specs.Prelude.{◌≡◌, ◌≤◌, ◌<◌, IsTrue, ◌+◌, ◌-◌, length, take, drop, IfOk, IsErrOf, ℕ};
+ghost use Rattle.std.specs.Prelude.{◌≡◌, ◌≤◌, ◌<◌, IsTrue, ◌+◌, ◌-◌, length, take, drop, IfOk, OnErr, IsErrOf, ℕ};
 ghost use Rattle.dfs_host.specs.Host.{Told, bytes_of, OnlyReads};
 ghost use Rattle.dfs_registry.specs.Reading.{is_open};
-ghost use Rattle.dfs_registry.specs.Opening.{IsGate, FitsBody, HasRegCause};
+ghost use Rattle.dfs_registry.specs.Opening.{IsGate, FitsBody, HasRegCause, HoldsBody};
 
 use crate::format::{GATE_LEN, LONGEST_STEP, OPEN};
 use crate::parse::{has_body, read_fields};
@@ -31,6 +31,7 @@ fn parse_gate(alloc: Global, piece: &[u8]) -> Result<Gate, NoMemory>
     requires { length piece.now ≤ 93 }
     ensures gate { IfOk result (IsGate piece.now) }
     ensures body { IfOk result FitsBody }
+    ensures memory { OnErr result (HoldsBody piece.now) }
 {
     if !is_open(piece) {
         return Ok(Gate::Closed);
@@ -46,6 +47,7 @@ fn parse_gate(alloc: Global, piece: &[u8]) -> Result<Gate, NoMemory>
 pub fn read_gate<H: Host>(alloc: Global, host: &mut H, gate: u64) -> Result<Gate, RegFault>
     ensures gate { Told (H.state host.old) (IfOk result (IsGate (drop gate (bytes_of (H.state host.old) 0)))) }
     ensures body { IfOk result FitsBody }
+    ensures memory { Told (H.state host.old) (IsErrOf result RegFault.NoMemory → HoldsBody (drop gate (bytes_of (H.state host.old) 0))) }
     ensures only { OnlyReads (H.state host.old) (H.state host.new) }
     ensures cause { HasRegCause (H.state host.old) (H.state host.new) result }
     ensures never_damaged { (at : ℕ) → IsErrOf result (RegFault.Damaged at) → ⊥ }

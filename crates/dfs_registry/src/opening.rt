@@ -3,7 +3,7 @@ ghost use Rattle.std.specs.Str.{bytes_eq};
 ghost use Rattle.dfs_host.specs.Disk.{IsSettled};
 ghost use Rattle.dfs_host.specs.Host.{Told, bytes_of, ChangesOnly, Only, OnlyReads, HasDiskCause};
 ghost use Rattle.dfs_registry.specs.Reading.{registry as reading, listing, at_rest, header};
-ghost use Rattle.dfs_registry.specs.Opening.{EndsBehind, HasRegCause, IsAnswer, IsShut};
+ghost use Rattle.dfs_registry.specs.Opening.{EndsBehind, HasPublication, HasRegCause, IsAnswer, IsShut};
 ghost use Rattle.dfs_registry.specs.Standing.{RegistryStands};
 
 use crate::entries::Entries;
@@ -75,6 +75,7 @@ fn open_short<H: Host>(alloc: Global, host: &mut H) -> Result<Registry, RegFault
     ensures only { Only 0 (H.state host.old) (H.state host.new) }
     ensures refused { IsErrOf result RegFault.NotRegistry → OnlyReads (H.state host.old) (H.state host.new) }
     ensures broken { (place : ℕ) → IsErrOf result (RegFault.Damaged place) → OnlyReads (H.state host.old) (H.state host.new) }
+    ensures memory { IsErrOf result RegFault.NoMemory → ⊥ }
     ensures shut { Told (H.state host.old) (IsShut (reading (bytes_of (H.state host.old) 0)) → OnlyReads (H.state host.old) (H.state host.new)) }
     ensures cause { HasRegCause (H.state host.old) (H.state host.new) result }
     ensures live { IfOk result (λ r. r.spent ≡ false) }
@@ -96,6 +97,8 @@ fn open_long<H: Host>(alloc: Global, host: &mut H) -> Result<Registry, RegFault>
     ensures only { Only 0 (H.state host.old) (H.state host.new) }
     ensures refused { IsErrOf result RegFault.NotRegistry → OnlyReads (H.state host.old) (H.state host.new) }
     ensures broken { (place : ℕ) → IsErrOf result (RegFault.Damaged place) → OnlyReads (H.state host.old) (H.state host.new) }
+    ensures memory { Told (H.state host.old) (IsErrOf result RegFault.NoMemory → HasPublication (bytes_of (H.state host.old) 0)) }
+    ensures unwritten { IsErrOf result RegFault.NoMemory → OnlyReads (H.state host.old) (H.state host.new) }
     ensures shut { Told (H.state host.old) (IsShut (reading (bytes_of (H.state host.old) 0)) → OnlyReads (H.state host.old) (H.state host.new)) }
     ensures cause { HasRegCause (H.state host.old) (H.state host.new) result }
     ensures live { IfOk result (λ r. r.spent ≡ false) }
@@ -127,6 +130,10 @@ impl Registry {
 
         ensures refused { IsErrOf result RegFault.NotRegistry → OnlyReads (H.state host.old) (H.state host.new) }
         ensures broken { (place : ℕ) → IsErrOf result (RegFault.Damaged place) → OnlyReads (H.state host.old) (H.state host.new) }
+
+        // NoMemory comes only where the file's first gate is open before a body that can be read, and nothing was written then.
+        ensures memory { Told (H.state host.old) (IsErrOf result RegFault.NoMemory → HasPublication (bytes_of (H.state host.old) 0)) }
+        ensures unwritten { IsErrOf result RegFault.NoMemory → OnlyReads (H.state host.old) (H.state host.new) }
 
         // A file that is no registry, or a damaged one, is only read, whatever the answer.
         ensures shut { Told (H.state host.old) (IsShut (reading (bytes_of (H.state host.old) 0)) → OnlyReads (H.state host.old) (H.state host.new)) }

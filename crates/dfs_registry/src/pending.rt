@@ -27,7 +27,8 @@ impl From<NoMemory> for PrepFault {
     }
 }
 
-/// A publication that was prepared, seen as the publication. It holds all memory that its commit needs.
+/// A publication that was prepared, seen as the publication. It holds the memory that its commit needs, but for the entry's
+/// room, which the registry has.
 #[derive(Drop)]
 pub struct Pending {
     pub(crate) listed: Listed,

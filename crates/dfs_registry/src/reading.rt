@@ -1,9 +1,9 @@
-ghost use Rattle.std.specs.Prelude.{◌≡◌, ◌++◌, ◌∷◌, [], ℕ, IfOk, IsErrOf, false};
+ghost use Rattle.std.specs.Prelude.{◌≡◌, ◌++◌, ◌∷◌, [], ℕ, drop, IfOk, IsErrOf, false};
 ghost use Rattle.dfs_host.specs.Host.{Told, bytes_of, OnlyReads};
 ghost use Rattle.dfs_registry.specs.Body.{repeats as is_repeated};
 ghost use Rattle.dfs_registry.specs.Reading.{registry, damaged, IsListing};
 ghost use Rattle.dfs_registry.specs.Seen.{HasJobs};
-ghost use Rattle.dfs_registry.specs.Opening.{EndsBehind, HasRegCause, IsMarked};
+ghost use Rattle.dfs_registry.specs.Opening.{EndsBehind, HasRegCause, HoldsBody, IsMarked};
 
 use crate::entries::Entries;
 use crate::format::{FIRST_GATE, MOST, STEP_LEN};
@@ -36,6 +36,7 @@ pub fn read_gates<H: Host>(alloc: Global, host: &mut H) -> Result<Registry, RegF
     ensures ends { Told (H.state host.old) (IfOk result (λ r. EndsBehind r.entries (bytes_of (H.state host.old) 0))) }
     ensures listing { IfOk result (λ r. IsListing r.entries) }
     ensures damaged { Told (H.state host.old) ((place : ℕ) → IsErrOf result (RegFault.Damaged place) → registry (bytes_of (H.state host.old) 0) ≡ damaged place) }
+    ensures memory { Told (H.state host.old) (IsErrOf result RegFault.NoMemory → HoldsBody (drop 8 (bytes_of (H.state host.old) 0))) }
     ensures only { OnlyReads (H.state host.old) (H.state host.new) }
     ensures cause { HasRegCause (H.state host.old) (H.state host.new) result }
     ensures never_other { IsErrOf result RegFault.NotRegistry → ⊥ }

@@ -1,18 +1,21 @@
-use Rattle.std.proofs.Common.{◌≡◌, [], ◌∷◌, inl, inr, ◌+◌, List, ◌++◌, length, take, sym, ◌∙◌, ap, subst, arith}
+use Rattle.std.proofs.Common.{◌≡◌, [], ◌∷◌, inl, inr, ◌+◌, List, ◌++◌, length, take, drop, sym, ◌∙◌, ap, subst, arith}
+use Rattle.std.specs.Prelude.{IsErrOf}
 use Rattle.std.proofs.lemmas.List.{length_push}
+use Rattle.std.proofs.lemmas.Result.{err_from_is_err_and}
 use Rattle.dfs_host.specs.Host.{bytes_of}
 use Rattle.dfs_host.proofs.Causes.{none_yet}
 use Rattle.dfs_registry.specs.declared.listed.Listed.{Listed}
+use Rattle.dfs_registry.specs.declared.fault.RegFault.TheVariants.{NoMemory}
 use Rattle.std.proofs.Common.{ℕ, nat_eq, false}
 use Rattle.std.specs.List.{list_any}
 use Rattle.dfs_registry.specs.Body.{repeats, lists_job}
 use Rattle.dfs_registry.specs.Reading.{IsListing, IsBody, header, blocks, gate_of, damaged}
 use Rattle.dfs_registry.specs.Seen.{HasJobs}
-use Rattle.dfs_registry.specs.Opening.{FitsBody, EndsBehind}
+use Rattle.dfs_registry.specs.Opening.{FitsBody, EndsBehind, HoldsBody}
 use Rattle.dfs_registry.proofs.Commit.{empty_listing, gate_low, listing_push, length-blocks-push}
 use Rattle.dfs_registry.proofs.Bodies.{short_name}
 use Rattle.dfs_host.proofs.Moments.{reads_nothing, reads_go_on, same_bytes}
-use Rattle.dfs_registry.proofs.Following.{none_by_reg, no_error, at_file, ends, front_more, damaged_at, none_next, repeated_next}
+use Rattle.dfs_registry.proofs.Following.{none_by_reg, no_error, at_file, ends, front_more, damaged_at, none_next, repeated_next, held, first_held}
 use Rattle.dfs_registry.proofs.reading.read_gates.Goals as goal
 
 pub loop-turn-init : goal.loop-turn-init
@@ -96,3 +99,33 @@ loop-turn-preserved g c =
       only = reads_go_on i.only c.read_gate.ensures.only;
       no_fault = none_by_reg i.no_fault c.read_gate.ensures.cause (no_error c.in_ok-read_gate.was);
     }
+
+pub returns-in_err-read_gate-clause-memory : goal.returns-in_err-read_gate-clause-memory
+returns-in_err-read_gate-clause-memory g c tells none =
+    let i = c.loop-turn.invariant in
+    let start = bytes_of (g.H.Host.state c.args.host.now) 0 in
+    let p = err_from_is_err_and c.from_residual.result c.from_residual.ensures.1 in
+    let short : IsErrOf c.read_gate.result NoMemory = cc (none, c.in_err-read_gate.was, p.1, p.2) in
+    let here = c.read_gate.ensures.memory (i.only.tells ∙ tells) short in
+    first_held start c.loop-turn.entries.items c.loop-turn.gate (i.front tells) i.is_list i.place
+    (subst (λ (l : List ℕ). HoldsBody (drop c.loop-turn.gate l)) (same_bytes i.only tells 0) here)
+
+pub returns-in_err-repeats-in-Open-clause-memory : goal.returns-in_err-repeats-in-Open-clause-memory
+returns-in_err-repeats-in-Open-clause-memory g c tells none =
+    let i = c.loop-turn.invariant in
+    let start = bytes_of (g.H.Host.state c.args.host.now) 0 in
+    let opened = at_file _ start c.loop-turn.gate _ _ (same_bytes i.only tells 0) c.in-Open.is (c.in_ok-read_gate.ensures.gate (i.only.tells ∙ tells)) in
+    first_held start c.loop-turn.entries.items c.loop-turn.gate (i.front tells) i.is_list i.place (held _ _ opened)
+
+pub returns-in_err-push-in-Open-clause-memory : goal.returns-in_err-push-in-Open-clause-memory
+returns-in_err-push-in-Open-clause-memory g c tells none =
+    let i = c.loop-turn.invariant in
+    let start = bytes_of (g.H.Host.state c.args.host.now) 0 in
+    let opened = at_file _ start c.loop-turn.gate _ _ (same_bytes i.only tells 0) c.in-Open.is (c.in_ok-read_gate.ensures.gate (i.only.tells ∙ tells)) in
+    first_held start c.loop-turn.entries.items c.loop-turn.gate (i.front tells) i.is_list i.place (held _ _ opened)
+
+pub returns-then-branch-clause-only : goal.returns-then-branch-clause-only
+returns-then-branch-clause-only g c = reads_go_on c.loop-turn.invariant.only c.read_gate.ensures.only
+
+pub returns-in_err-push-in-Open-clause-only : goal.returns-in_err-push-in-Open-clause-only
+returns-in_err-push-in-Open-clause-only g c = reads_go_on c.loop-turn.invariant.only c.read_gate.ensures.only

@@ -20,7 +20,7 @@ pub enum Status {
     RegistryDamaged(u64),
     /// A call on a file failed.
     DiskFault,
-    /// The output failed. Some first bytes of a reply were said.
+    /// The output failed within a reply, or within the summary: some first bytes of it were said, or none.
     OutputFault,
     /// The source failed.
     SourceFault,

@@ -106,6 +106,8 @@ impl Session {
             → ChangesOnly 0 (λ bytes. reading bytes ≡ reading (bytes_of (H.state host.old) 0)) (H.state host.old) (H.state host.new)) }
         ensures refused { IsErrOf result RegFault.NotRegistry → OnlyReads (H.state host.old) (H.state host.new) }
         ensures broken { (place : ℕ) → IsErrOf result (RegFault.Damaged place) → OnlyReads (H.state host.old) (H.state host.new) }
+        // For want of memory nothing is written.
+        ensures unwritten { IsErrOf result RegFault.NoMemory → OnlyReads (H.state host.old) (H.state host.new) }
         ensures cause { HasRegCause (H.state host.old) (H.state host.new) result }
     {
         let registry = Registry::open(alloc, host)?;

@@ -17,6 +17,8 @@ use Rattle.deltafs.proofs.Hosts.{value_stays}
 use Rattle.deltafs.proofs.Others.{others_on, others_said}
 use Rattle.deltafs.proofs.Summing.{ends_silent, no_long_script, no_source_fault, summed, sums_now}
 use Rattle.dfs_session.proofs.Writing.{logs_on, logs_said}
+use Rattle.deltafs.specs.Rests.{LeavesAtRest}
+use Rattle.deltafs.proofs.Resting.{rests_still, rests_with}
 use Rattle.deltafs.proofs.running.run_generated.Goals as goal
 
 pub returns-in-Done-clause-says : goal.returns-in-Done-clause-says
@@ -98,3 +100,12 @@ returns-in-Done-clause-others g c old tells start =
 pub returns-in_default-clause-others : goal.returns-in_default-clause-others
 returns-in_default-clause-others g c old tells start =
     c.run_script.ensures.others old tells (subst (λ (k : Counts). IsAfter (Gen c.args.creates) old [] (g.H.Host.state c.args.host.now) k c.args.session) (sym c.new-summary.ensures) start)
+
+-- File 0 at the end.
+
+pub returns-in-Done-clause-rests : goal.returns-in-Done-clause-rests
+returns-in-Done-clause-rests g c tells =
+    let mid = g.H.Host.state c.run_script.new.host in
+    let new = g.H.Host.state c.say_summary.new.host in
+    rests_with c.say_summary.result new
+    (rests_still mid new (c.say_summary.ensures.files (c.run_script.ensures.cause.tells ∙ tells) 0) (subst (λ (s : Status). LeavesAtRest s mid) c.in-Done.is (c.run_script.ensures.rests tells)))

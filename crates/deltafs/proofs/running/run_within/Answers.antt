@@ -17,7 +17,9 @@ use Rattle.deltafs.proofs.Faults.{limit_unopened, takes_none}
 use Rattle.deltafs.proofs.Leaving.{idle, opened_first, opening, prompt_idle}
 use Rattle.deltafs.proofs.Others.{others_idle, others_on, others_opened}
 use Rattle.deltafs.proofs.Starting.{gen_run, says_nothing, says_unopened, some_none, is_shut}
-use Rattle.dfs_session.proofs.Writing.{logs_idle, logs_on, opened_logs}
+use Rattle.dfs_session.proofs.Writing.{file_idle, logs_idle, logs_on, opened_logs}
+use Rattle.deltafs.specs.Rests.{Rests}
+use Rattle.deltafs.proofs.Resting.{rests_opened, rests_unopened}
 use Rattle.deltafs.proofs.running.run_within.Goals as goal
 
 -- The script of the source.
@@ -296,3 +298,26 @@ returns-in_default-clause-others g c old start = others_idle old (g.H.Host.state
 
 pub returns-in_default-new-clause-others : goal.returns-in_default-new-clause-others
 returns-in_default-new-clause-others g c old start = others_idle old (g.H.Host.state c.args.host.now)
+
+-- File 0 at the end.
+
+pub returns-in-Run-clause-rests : goal.returns-in-Run-clause-rests
+returns-in-Run-clause-rests g c tells =
+    rests_opened c.run_script.result (g.H.Host.state c.args.host.now) (g.H.Host.state c.run_script.new.host) c.run_script.ensures.lines (c.run_script.ensures.rests (c.open.ensures.cause.tells ∙ tells))
+
+pub returns-in-Gen-clause-rests : goal.returns-in-Gen-clause-rests
+returns-in-Gen-clause-rests g c tells =
+    rests_opened c.run_generated.result (g.H.Host.state c.args.host.now) (g.H.Host.state c.run_generated.new.host) c.run_generated.ensures.lines (c.run_generated.ensures.rests (c.open.ensures.cause.tells ∙ tells))
+
+pub returns-in-Err-clause-rests : goal.returns-in-Err-clause-rests
+returns-in-Err-clause-rests g c tells =
+    let host = g.H.Host.state c.args.host.now in
+    let mid = g.H.Host.state c.open.new.host in
+    subst (λ (s : Status). Rests s host mid) (sym c.unopened.ensures)
+    (rests_unopened c.in-Err.fault host mid tells (λ is. c.open.ensures.refused (c.in-Err.is ∙ ap Err is)) (λ place is. c.open.ensures.broken place (c.in-Err.is ∙ ap Err is)) (λ is. c.open.ensures.unwritten (c.in-Err.is ∙ ap Err is)))
+
+pub returns-in_default-clause-rests : goal.returns-in_default-clause-rests
+returns-in_default-clause-rests g c tells = file_idle 0 (g.H.Host.state c.args.host.now)
+
+pub returns-in_default-new-clause-rests : goal.returns-in_default-new-clause-rests
+returns-in_default-new-clause-rests g c tells = inr (file_idle 0 (g.H.Host.state c.args.host.now))

@@ -8,12 +8,13 @@ use Rattle.dfs_session.specs.Run.{session_after}
 use Rattle.dfs_session.specs.Session.{opened, step}
 use Rattle.deltafs.specs.declared.words.Command.{Command}
 use Rattle.deltafs.specs.declared.words.Command.TheVariants.{Run}
-use Rattle.deltafs.specs.Lines.{IsOfLine, Leaves, SaysText}
+use Rattle.deltafs.specs.Lines.{IsOfLine, Leaves, SaysText, status_after}
 use Rattle.deltafs.proofs.Faults.{on_ok, leaves_said, output_alone, says_reply}
 use Rattle.deltafs.proofs.Hosts.{sound_stays, stands_stays, value_stays}
 use Rattle.deltafs.proofs.Leaving.{stepped, replied}
 use Rattle.dfs_session.proofs.Writing.{logs_on, logs_said, silent_these}
 use Rattle.deltafs.proofs.Others.{others_on, others_said, others_step}
+use Rattle.deltafs.proofs.Resting.{rests_at, rests_still, rests_with, sound_rests}
 use Rattle.deltafs.proofs.running.work_line.Goals as goal
 
 pub returns-in-Run-clause-ready : goal.returns-in-Run-clause-ready
@@ -111,3 +112,21 @@ pub returns-clause-others : goal.returns-clause-others
 returns-clause-others g c old lines tells stands =
     others_step (g.H.Host.state c.args.host.now) (g.H.Host.state c.step.new.host) c.args.session.now old lines (meaning c.args.line.now) tells c.requires stands c.step.ensures.writes
     (λ at_once. (c.step.ensures.at_once (session_after (opened old) lines) tells stands at_once).1)
+
+-- File 0 at the end.
+
+pub returns-in-Run-clause-rests : goal.returns-in-Run-clause-rests
+returns-in-Run-clause-rests g c tells =
+    let mid = g.H.Host.state c.step.new.host in
+    let new = g.H.Host.state c.say.new.host in
+    let mid_tells = c.step.ensures.cause.tells ∙ tells in
+    rests_with (status_after c.say.result) new (rests_still mid new (c.say.ensures.files mid_tells 0) (sound_rests mid c.step.new.self c.in-Ok.ensures.sound mid_tells))
+
+pub returns-in-Ok-clause-rests : goal.returns-in-Ok-clause-rests
+returns-in-Ok-clause-rests g c tells = sound_rests (g.H.Host.state c.step.new.host) c.step.new.self c.in-Ok.ensures.sound (c.step.ensures.cause.tells ∙ tells)
+
+pub returns-clause-rests : goal.returns-clause-rests
+returns-clause-rests g c tells =
+    let old = g.H.Host.state c.args.host.now in
+    let new = g.H.Host.state c.step.new.host in
+    rests_at c.in-Err.fault new (λ other. rests_still old new (c.step.ensures.faults c.in-Err.fault tells c.in-Err.is other).same (sound_rests old c.args.session.now c.requires tells))

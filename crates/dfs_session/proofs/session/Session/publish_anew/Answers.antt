@@ -2,7 +2,8 @@ use Rattle.std.proofs.Common.{◌≡◌, ◌≢◌, ◌∙◌, ℕ, Option, Resu
 use Rattle.std.proofs.lemmas.Result.{err_from_is_err_and}
 use Rattle.std.specs.BTreeMap.{BTreeMap, is_at}
 use Rattle.std.specs.Global.{Vec}
-use Rattle.std.specs.Prelude.{IsSome}
+use Rattle.std.specs.Prelude.{IsSome, None, is_some}
+use Rattle.dfs_session.proofs.Faults.{not_true}
 use Rattle.dfs_session.proofs.Sealing.{adds_sealed}
 use Rattle.std.specs.Map.{remove_entry}
 use Rattle.dfs_host.specs.Fault.{HasFaultCause, NoFault}
@@ -183,7 +184,9 @@ returns-in_err-list-clause-faults g c = λ fault tells is other.
 
 pub returns-in_default-clause-sealed : goal.returns-in_default-clause-sealed
 returns-in_default-clause-sealed g c = λ s tells stands some.
-    absurd (cc (some, no_job (g.H.Host.state c.args.host.now) c.args.self.now s c.args.word.now stands (sym c.in_default.ensures.value)))
+    absurd
+    (not_true (is_some {T = Job} None) refl
+    (subst (λ (o : Option Job). IsSome o) (no_job (g.H.Host.state c.args.host.now) c.args.self.now s c.args.word.now stands (sym c.in_default.ensures.value)) some))
 
 pub returns-clause-sealed : goal.returns-clause-sealed
 returns-clause-sealed g c = λ s tells stands some.

@@ -1,11 +1,10 @@
 -- What a publication leaves in the log of its job.
-use Rattle.std.specs.Prelude.{◌≡◌, ◌+◌, ◌++◌, ◌∷◌, [], List, length, Option, Some, None}
+use Rattle.std.specs.Prelude.{◌≡◌, ◌+◌, ◌++◌, ◌∷◌, [], List, length, Option, Some, None, Result, Ok, Err}
 use Rattle.dfs_host.specs.Host.{HostState, bytes_of}
 use Rattle.dfs_registry.specs.declared.listed.Listed.{Listed}
 use Rattle.dfs_script.specs.declared.Line.{Line}
 use Rattle.dfs_script.specs.declared.Line.TheVariants.{Nothing, Set, Snapshots, Begin, Space, Flush, Plan, Part, Stats, Publish, End}
 use Rattle.dfs_script.specs.declared.LineFault.{LineFault}
-use Rattle.std.specs.Prelude.{Result, Ok, Err}
 use Rattle.dfs_view.specs.declared.layers.Layers.{Layers}
 use Rattle.dfs_job.specs.declared.job.Job.{Job as LiveJob}
 use Rattle.dfs_job.specs.Job.{Job, after_flush, layer_changes}
